@@ -1,0 +1,78 @@
+-- Laws of `numbersFrom` and `itemAt`. `Reading` is where the reader of an item's numbers stands: what it has read is in its array, and the rest, read from here on,
+-- makes the item.
+use mathlib.Core.Path.{_≡_, refl, sym, _∙_}
+use mathlib.Core.List.{List, [], _∷_, _++_}
+use Prim.Native.Nat.{ℕ, suc, _+_, _-_, _≤_, _<_}
+use native.Mathlib.Nat.{sub-zero}
+use native.Mathlib.Numerals.{add-one}
+use native.Mathlib.Omega.{arith}
+use borrow.Author.Tests.{le-leb, lt-leb}
+use lib.ListN.{length, getD, set, replicate, length-append, drop-of-length-le}
+use lib.Seq.{drop-cons}
+use Rattle.reading.specs.Items.{itemAt, numbersFrom, numbersOf}
+use Rattle.reading.specs.Numbers.{numberAt}
+use Rattle.reading.specs.Padded.{padded}
+use Rattle.reading.specs.declared.item.Table.{Table}
+use Rattle.reading.specs.declared.item.Read.the-variants.{Item, End, Refused}
+use Rattle.reading.specs.declared.number.Number.the-variants.{Value, Short, Long}
+use Rattle.reading.specs.declared.refusal.Refusal.the-variants.{UnknownCode, CutShort, NotShortest}
+use Rattle.reading.proofs.Padded.{padded-none, set-padded, getD-padded}
+
+module _ (bytes : List ℕ) (at code count : ℕ) where
+  -- k numbers are read, and the reader stands at `next`
+  pub record Reading (numbers : List ℕ) (next k : ℕ) : Type 0 where
+    pub read : List ℕ
+    pub so-many : k ≡ length read
+    pub within : k ≤ count
+    pub array : numbers ≡ padded 3 read
+    pub rest : numbersFrom (count - k) bytes at code read next ≡ numbersFrom count bytes at code [] (at + 1)
+
+  pub start : Reading (replicate 3 0) (at + 1) 0
+  start = record { read = []; so-many = refl; within = omega arith; array = sym (padded-none 3); rest = rw sub-zero }
+
+  module _ {numbers : List ℕ} {next k : ℕ} (r : Reading numbers next k) where
+    -- the item, once all numbers are read
+    pub whole : count ≤ k → Item code (getD numbers 0 0) (getD numbers 1 0) (getD numbers 2 0) next ≡ numbersFrom count bytes at code [] (at + 1)
+    unfolding numbersFrom
+    whole h =
+        let e : count - k ≡ 0 = omega (arith, r .within) in
+        simp (r .array, getD-padded) (rw e at (r .rest))
+
+    module _ (wanted : k < count) where
+      one-more : count - k ≡ suc (count - (k + 1))
+      one-more = omega arith
+
+      -- one more number
+      pub more : (n behind : ℕ) → count < 4 → Value n behind ≡ numberAt bytes next → Reading (set numbers k n) behind (k + 1)
+      unfolding numbersFrom
+      more n behind small e =
+          record {
+            read = r .read ++ n ∷ [];
+            so-many = simp length-append (omega (arith, r .so-many));
+            within = omega arith;
+            array = rw (r .array, r .so-many, set-padded 3 (r .read) n (omega (arith, r .so-many)));
+            rest = rw (one-more, ← e) at (r .rest);
+          }
+
+      -- a number that can't be read refuses the item
+      pub cut : Short ≡ numberAt bytes next → Refused (CutShort at) ≡ numbersFrom count bytes at code [] (at + 1)
+      unfolding numbersFrom
+      cut e = rw (one-more, ← e) at (r .rest)
+
+      pub long : Long ≡ numberAt bytes next → Refused (NotShortest at) ≡ numbersFrom count bytes at code [] (at + 1)
+      unfolding numbersFrom
+      long e = rw (one-more, ← e) at (r .rest)
+
+module _ (table : Table) (bytes : List ℕ) (at : ℕ) where
+  pub ended : length bytes ≤ at → End ≡ itemAt table bytes at
+  unfolding itemAt
+  ended h = rw (drop-of-length-le bytes h)
+
+  module _ (inside : at < length bytes) (count : ℕ) (is : count ≡ numbersOf table (getD bytes at 0)) where
+    pub unknown : 4 ≤ count → Refused (UnknownCode at) ≡ itemAt table bytes at
+    unfolding itemAt
+    unknown h = rw (drop-cons bytes at 0 inside, ← is, le-leb 4 count h)
+
+    pub known : count < 4 → numbersFrom count bytes at (getD bytes at 0) [] (at + 1) ≡ itemAt table bytes at
+    unfolding itemAt
+    known h = rw (drop-cons bytes at 0 inside, ← is, lt-leb 4 count h)

@@ -1,0 +1,6 @@
+-- Laws of the definitions, for this crate's functions and those of the crates above.
+pub mod Numbers
+pub mod Padded
+pub mod Written
+pub mod Items
+pub mod Bytes

@@ -1,0 +1,68 @@
+-- Laws of `numberAt`: what stands at a place, by the tests on one or two bytes that decide it. Each opens the list at the place, and the tests do the rest.
+use mathlib.Core.Path.{_≡_}
+use mathlib.Core.Bool.{Bool, true, _||_}
+use mathlib.Core.List.{List, [], _∷_}
+use Prim.Native.Nat.{ℕ, suc, _+_, _-_, _*_, _/_, _%_, _≤_, _<_}
+use native.Mathlib.Numerals.{add-one}
+use native.Mathlib.Omega.{arith}
+use borrow.Author.Tests.{lt-ltb, le-ltb, le-leb, lt-leb, eq-eqb, ne-eqb}
+use lib.Dec.{eqb, leb}
+use lib.ListN.{length, getD, drop, drop-of-length-le}
+use lib.Seq.{drop-cons}
+use Rattle.reading.specs.Numbers.{numberAt, numberBytes}
+use Rattle.reading.specs.Limits.{limits}
+use Rattle.reading.specs.declared.number.Number.the-variants.{Value, Short, Long}
+
+-- behind the last byte
+pub ended : (s : List ℕ) (at : ℕ) → length s ≤ at → Short ≡ numberAt s at
+unfolding numberAt
+ended s at h = rw (drop-of-length-le s h)
+
+module _ (s : List ℕ) (at low : ℕ) (inside : at < length s) (first : low ≡ getD s at 0) where
+  -- one byte
+  pub one : low < 128 → Value low (at + 1) ≡ numberAt s at
+  unfolding numberAt
+  one h = rw (drop-cons s at 0 inside, ← first, lt-ltb low 128 h)
+
+  -- a first byte that says that another follows, where none does
+  pub cut : 128 ≤ low → length s ≤ at + 1 → Short ≡ numberAt s at
+  unfolding numberAt
+  cut h e = rw (drop-cons s at 0 inside, ← first, le-ltb low 128 h, drop-of-length-le s {i = suc at} (omega arith))
+
+  module _ (high : ℕ) (follows : 128 ≤ low) (more : at + 1 < length s) (second : high ≡ getD s (at + 1) 0) where
+    -- a second byte that is 0 or says that a third follows
+    pub long : (eqb high 0 || leb 128 high) ≡ true → Long ≡ numberAt s at
+    unfolding numberAt
+    long h =
+        let e : high ≡ getD s (suc at) 0 = rw add-one at second in
+        rw (drop-cons s at 0 inside, ← first, le-ltb low 128 follows, drop-cons s (suc at) 0 (omega arith), ← e, h)
+
+    -- two bytes
+    pub two : (high ≡ 0 → ⊥) → high < 128 → Value (low - 128 + 128 * high) (at + 1 + 1) ≡ numberAt s at
+    unfolding numberAt
+    two h t =
+        let e : high ≡ getD s (suc at) 0 = rw add-one at second in
+        let n : at + 1 + 1 ≡ at + 2 = omega arith in
+        rw (
+          drop-cons s at 0 inside,
+          ← first,
+          le-ltb low 128 follows,
+          drop-cons s (suc at) 0 (omega arith),
+          ← e,
+          ne-eqb high 0 h,
+          lt-leb 128 high t,
+          n,
+        )
+
+-- The three forms of a number's bytes
+pub bytes-one : (n : ℕ) → n < 128 → numberBytes n ≡ n % 128 ∷ []
+unfolding numberBytes
+bytes-one n h = let e : n % 128 ≡ n = omega arith in rw (lt-ltb n 128 h, e)
+
+pub bytes-two : (n : ℕ) → 128 ≤ n → n ≤ limits .number → numberBytes n ≡ (n % 128 + 128) ∷ (n / 128 % 128) ∷ []
+unfolding numberBytes
+bytes-two n h t = let e : n / 128 % 128 ≡ n / 128 = omega arith in rw (le-ltb n 128 h, le-leb n (limits .number) t, e)
+
+pub bytes-none : (n : ℕ) → 128 ≤ n → limits .number < n → numberBytes n ≡ []
+unfolding numberBytes
+bytes-none n h t = rw (le-ltb n 128 h, lt-leb n (limits .number) t)

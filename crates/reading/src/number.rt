@@ -1,0 +1,81 @@
+// Numbers: groups of seven bits, lowest group first, the shortest form only, one or two bytes.
+ghost use mathlib.Core.Path.{_≡_};
+ghost use Prim.Native.Nat.{_<_};
+ghost use Rattle.reading.specs.Numbers.{numberAt, numberBytes, written, placeAfter};
+use crate::limits::MOST_NUMBER;
+
+// What stands at a place: a number and the place after it, or the fault.
+pub enum Number {
+    Value { value: u16, next: usize },
+    // The bytes end before the number does.
+    Short,
+    // It is not the shortest form, or its second byte has the top bit set.
+    Long,
+}
+
+// The bytes of one group, and the top bit that says that another follows.
+const GROUP: u16 = 128;
+
+// A byte as a number.
+fn wide(byte: u8) -> u16
+    ensures { λ r. ⌜ (r ≡ byte) × (r < 256) ⌝ }
+{
+    byte as u16
+}
+
+// Reads the number at a place, which may be the end or lie behind it.
+pub fn read_number(bytes: &[u8], at: usize) -> Number
+    ensures { λ r. ⌜ r ≡ numberAt (now (bytes .entry)) at ⌝ }
+{
+    if bytes.len() <= at {
+        return Number::Short;
+    }
+    let low = wide(bytes[at]);
+    let second = at + 1;
+    if low < GROUP {
+        return Number::Value {
+            value: low,
+            next: second,
+        };
+    }
+    if bytes.len() <= second {
+        return Number::Short;
+    }
+    let high = wide(bytes[second]);
+    if high == 0 {
+        return Number::Long;
+    }
+    if GROUP <= high {
+        return Number::Long;
+    }
+    Number::Value {
+        value: low - GROUP + GROUP * high,
+        next: second + 1,
+    }
+}
+
+// Writes a number from a place on and answers the place behind it. A number above the greatest, or one that does not fit, is not written,
+// and the answer is the place itself.
+pub fn write_number(buffer: &mut [u8], at: usize, value: u16) -> usize
+    ensures { λ r. ⌜ (now (buffer .exit) ≡ written (now (buffer .entry)) at (numberBytes value)) × (r ≡ placeAfter (now (buffer .entry)) at (numberBytes value)) ⌝ }
+{
+    if value < GROUP {
+        if buffer.len() <= at {
+            return at;
+        }
+        buffer[at] = (value % GROUP) as u8;
+        return at + 1;
+    }
+    if MOST_NUMBER < value {
+        return at;
+    }
+    if buffer.len() <= at {
+        return at;
+    }
+    if buffer.len() - at < 2 {
+        return at;
+    }
+    buffer[at] = (value % GROUP + GROUP) as u8;
+    buffer[at + 1] = (value / GROUP % GROUP) as u8;
+    at + 2
+}

@@ -1,0 +1,8 @@
+-- What is proved of the meaning of `rules`.
+pub mod Agreement
+pub mod Horizon
+pub mod Stack
+pub mod Judging
+pub mod Good
+pub mod Walking
+pub mod Turns

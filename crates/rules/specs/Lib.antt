@@ -1,0 +1,7 @@
+-- What the contracts of `rules` cite.
+pub mod Formula
+pub mod Meaning
+pub mod Items
+pub mod Loading
+pub mod Good
+pub mod Walking

@@ -1,0 +1,3 @@
+// Rules: mission-time temporal logic over clips, and the loading of a rule's bytes.
+pub mod item;
+pub mod load;
