@@ -79,7 +79,7 @@ module _ (bytes : List ℕ) (at : ℕ) where
       record { here = rw (rest-behind own rest e) e; behind = refl; inside = omega arith }
 
   -- bytes one behind the other are one run of bytes, and the other way round
-  joined : {a b : List ℕ} {mid next : ℕ} → Stands bytes at a mid → Stands bytes mid b next → Stands bytes at (a ++ b) next
+  pub joined : {a b : List ℕ} {mid next : ℕ} → Stands bytes at a mid → Stands bytes mid b next → Stands bytes at (a ++ b) next
   joined s t = record { here = rw (s .here, t .here, append-assoc); behind = simp length-append (omega arith); inside = t .inside }
 
   parted : (a b : List ℕ) {next : ℕ} → Stands bytes at (a ++ b) next

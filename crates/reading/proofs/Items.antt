@@ -2,18 +2,21 @@
 -- makes the item.
 use mathlib.Core.Path.{_≡_, refl, sym, _∙_}
 use mathlib.Core.List.{List, [], _∷_, _++_}
-use Prim.Native.Nat.{ℕ, suc, _+_, _-_, _≤_, _<_}
+use mathlib.Core.Logic.{by-cases}
+use Prim.Native.Nat.{ℕ, zero, suc, _+_, _-_, _≤_, _<_}
 use native.Mathlib.Nat.{sub-zero}
 use native.Mathlib.Numerals.{add-one}
+use native.Mathlib.Decide.{decLt}
 use native.Mathlib.Omega.{arith}
 use borrow.Author.Tests.{le-leb, lt-leb}
 use lib.ListN.{length, getD, set, replicate, length-append, drop-of-length-le}
 use lib.Seq.{drop-cons}
-use Rattle.reading.specs.Items.{itemAt, numbersFrom, numbersOf}
+use Rattle.reading.specs.Items.{itemAt, numbersFrom, numbersOf, withNumber}
 use Rattle.reading.specs.Numbers.{numberAt}
 use Rattle.reading.specs.Padded.{padded}
 use Rattle.reading.specs.declared.item.Table.{Table}
 use Rattle.reading.specs.declared.item.Read.the-variants.{Item, End, Refused}
+use Rattle.reading.specs.declared.number.Number.{Number}
 use Rattle.reading.specs.declared.number.Number.the-variants.{Value, Short, Long}
 use Rattle.reading.specs.declared.refusal.Refusal.the-variants.{UnknownCode, CutShort, NotShortest}
 use Rattle.reading.proofs.Padded.{padded-none, set-padded, getD-padded}
@@ -76,3 +79,31 @@ module _ (table : Table) (bytes : List ℕ) (at : ℕ) where
     pub known : count < 4 → numbersFrom count bytes at (getD bytes at 0) [] (at + 1) ≡ itemAt table bytes at
     unfolding itemAt
     known h = rw (drop-cons bytes at 0 inside, ← is, lt-leb 4 count h)
+
+-- the numbers of an item are never the end
+never-end : (m : ℕ) (bytes : List ℕ) (at code : ℕ) (read : List ℕ) (next : ℕ) → numbersFrom m bytes at code read next ≡ End → ⊥
+unfolding numbersFrom
+never-end zero bytes at code read next e = let z : _≡_ {A = ℕ} 0 1 = cc in omega arith
+never-end (suc m) bytes at code read next e = go (numberAt bytes next) (λ n. never-end m bytes at code (read ++ n ∷ [])) e
+  where
+    go : (x : Number) → ((n behind : ℕ) → numbersFrom m bytes at code (read ++ n ∷ []) behind ≡ End → ⊥) → withNumber at x (λ n behind. numbersFrom m bytes at code (read ++ n ∷ []) behind) ≡ End → ⊥
+    go (Value n behind) more f = more n behind f
+    go Short more f = let z : _≡_ {A = ℕ} 0 1 = cc in omega arith
+    go Long more f = let z : _≡_ {A = ℕ} 0 1 = cc in omega arith
+
+-- so the end is read at the end alone
+pub end-back : (table : Table) (bytes : List ℕ) (at : ℕ) → itemAt table bytes at ≡ End → length bytes ≤ at
+end-back table bytes at e =
+    by-cases (decLt at (length bytes))
+    (λ h. absurd (inside h))
+    (λ h. omega arith)
+  where
+    inside : at < length bytes → ⊥
+    inside h =
+        let n = numbersOf table (getD bytes at 0) in
+        by-cases (decLt n 4)
+        (λ t. never-end n bytes at (getD bytes at 0) [] (at + 1) (known table bytes at h n refl t ∙ e))
+        (λ t.
+        let u : Refused (UnknownCode at) ≡ itemAt table bytes at = unknown table bytes at h n refl (omega arith) in
+        let z : _≡_ {A = ℕ} 0 1 = cc in
+        omega arith)

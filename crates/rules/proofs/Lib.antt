@@ -6,3 +6,5 @@ pub mod Judging
 pub mod Good
 pub mod Walking
 pub mod Turns
+pub mod RuleBytes
+pub mod Accepted

@@ -2,8 +2,9 @@
 -- left comes first. Codes (hex): 10 true, 11 false, 12 k flag, 20 not, 21 and, 22 or, 30 a b until, 31 a b release, 32 a b eventually, 33 a b globally."
 use mathlib.Core.Bool.{cond}
 use mathlib.Core.List.{List, [], _∷_, _++_}
-use Prim.Native.Nat.{ℕ, _+_}
+use Prim.Native.Nat.{ℕ}
 use lib.Dec.{eqb}
+use Rattle.reading.specs.Numbers.{numberBytes}
 use Rattle.rules.specs.Formula.{Formula}
 use Rattle.rules.specs.declared.item.Item.{Item}
 use Rattle.rules.specs.declared.item.Item.the-variants.{True, False, Flag, Not, And, Or, Until, Release, Eventually, Globally}
@@ -63,3 +64,21 @@ apply (Eventually a b) [] = []
 apply (Eventually a b) (f ∷ st) = Formula.Eventually a b f ∷ st
 apply (Globally a b) [] = []
 apply (Globally a b) (f ∷ st) = Formula.Globally a b f ∷ st
+
+-- The bytes of an item: its code byte, and its numbers in the shortest form
+unfoldable pub bytesOf : Item → List ℕ
+bytesOf True = 0x10 ∷ []
+bytesOf False = 0x11 ∷ []
+bytesOf (Flag k) = 0x12 ∷ numberBytes k
+bytesOf Not = 0x20 ∷ []
+bytesOf And = 0x21 ∷ []
+bytesOf Or = 0x22 ∷ []
+bytesOf (Until a b) = 0x30 ∷ (numberBytes a ++ numberBytes b)
+bytesOf (Release a b) = 0x31 ∷ (numberBytes a ++ numberBytes b)
+bytesOf (Eventually a b) = 0x32 ∷ (numberBytes a ++ numberBytes b)
+bytesOf (Globally a b) = 0x33 ∷ (numberBytes a ++ numberBytes b)
+
+-- The bytes of a rule: those of its items, in order
+unfoldable pub ruleBytes : List Item → List ℕ
+ruleBytes [] = []
+ruleBytes (i ∷ is) = bytesOf i ++ ruleBytes is

@@ -4,4 +4,5 @@ pub mod Meaning
 pub mod Items
 pub mod Loading
 pub mod Good
+pub mod Accepted
 pub mod Walking

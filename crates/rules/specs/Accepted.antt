@@ -1,0 +1,31 @@
+-- What holds of every accepted rule, for the layers above. Document 01: "At most 64 items, 16 of them timed, and the lower bounds a of all timed items add up to at
+-- most 256. Bounds are 0 to 255 with a ≤ b."
+use mathlib.Core.Path.{_≡_}
+use mathlib.Core.List.{List}
+use Prim.Native.Nat.{ℕ, _+_, _*_, _≤_}
+use lib.ListN.{length}
+use Rattle.reading.specs.Limits.{limits}
+use Rattle.rules.specs.Formula.{Formula, horizon}
+use Rattle.rules.specs.Good.{Each, InRange, postfix}
+use Rattle.rules.specs.Items.{ruleBytes}
+use Rattle.rules.specs.Loading.{Items, timedIn, lowerIn}
+
+-- The greatest horizon: 16 timed items, one within the other, that look 255 frames ahead each
+abbrev pub mostHorizon : ℕ
+mostHorizon = limits .bound * limits .timed
+
+-- The most bytes that a rule can have: two for each item, and three more for each timed one
+abbrev pub mostRuleBytes : ℕ
+mostRuleBytes = 2 * limits .items + 3 * limits .timed
+
+-- The bytes, the items and the formula of an accepted rule
+pub record IsRule (bytes : List ℕ) (is : Items) (f : Formula) : Type 0 where
+  pub own-bytes : bytes ≡ ruleBytes is
+  pub own-items : is ≡ postfix f
+  pub some : 1 ≤ length is
+  pub items : length is ≤ limits .items
+  pub timed : timedIn is ≤ limits .timed
+  pub lower : lowerIn is ≤ limits .lower
+  pub ranges : Each InRange is
+  pub near : horizon f ≤ mostHorizon
+  pub short : length bytes ≤ mostRuleBytes
