@@ -14,7 +14,7 @@ use lib.ListN.{length, getD, take, drop, length-append, length-drop, length-take
 use lib.Seq.{drop-drop, drop-append-seam, append-snoc, getD-drop, take-at}
 use Rattle.reading.specs.Limits.{limits}
 use Rattle.reading.specs.Numbers.{firstByte, secondByte, numberAt, numberBytes}
-use Rattle.reading.specs.Items.{codeFirst, itemAt, withNumber, numbersFrom, numbersOf, numbersBytes, itemBytes}
+use Rattle.reading.specs.Items.{codeFirst, itemAt, withNumber, numbersFrom, numbersOf, noCode, numbersBytes, itemBytes}
 use Rattle.reading.specs.Padded.{padded}
 use Rattle.reading.specs.declared.number.Number.{Number}
 use Rattle.reading.specs.declared.number.Number.the-variants.{Value, Short, Long}
@@ -82,7 +82,7 @@ module _ (bytes : List ℕ) (at : ℕ) where
   pub joined : {a b : List ℕ} {mid next : ℕ} → Stands bytes at a mid → Stands bytes mid b next → Stands bytes at (a ++ b) next
   joined s t = record { here = rw (s .here, t .here, append-assoc); behind = simp length-append (omega arith); inside = t .inside }
 
-  parted : (a b : List ℕ) {next : ℕ} → Stands bytes at (a ++ b) next
+  pub parted : (a b : List ℕ) {next : ℕ} → Stands bytes at (a ++ b) next
       → Stands bytes at a (at + length a) × Stands bytes (at + length a) b next
   parted a b {next} s =
       let rest : List ℕ = b ++ drop next bytes in
@@ -151,7 +151,7 @@ module _ (bytes : List ℕ) (at code : ℕ) where
 
 -- an item's numbers: none is too large, and those that it lacks are 0
 pub record Fitting (table : Table) (code i j k : ℕ) : Type 0 where
-  pub known : numbersOf table code < 4
+  pub known : numbersOf table code < noCode
   pub first : i ≤ limits .number
   pub second : j ≤ limits .number
   pub third : k ≤ limits .number
@@ -167,7 +167,7 @@ three (a ∷ b ∷ c ∷ []) h = refl
 three (a ∷ b ∷ c ∷ d ∷ ns) h = absurd (omega arith)
 
 -- as many numbers as a code has make an item, whose bytes are theirs
-fitting : (table : Table) (code : ℕ) (ns : List ℕ) → numbersOf table code < 4 → length ns ≡ numbersOf table code → AllFit ns
+fitting : (table : Table) (code : ℕ) (ns : List ℕ) → numbersOf table code < noCode → length ns ≡ numbersOf table code → AllFit ns
     → Fitting table code (getD ns 0 0) (getD ns 1 0) (getD ns 2 0)
     × (itemBytes table code (getD ns 0 0) (getD ns 1 0) (getD ns 2 0) ≡ code ∷ numbersBytes ns)
 unfolding padded itemBytes
@@ -178,13 +178,13 @@ fitting table code ns known l fit =
 
 -- where an item is read there is a known code, and its numbers are read behind it
 coded : (table : Table) (bytes : List ℕ) (at : ℕ) (s : List ℕ) {code i j k next : ℕ} → codeFirst table bytes at s ≡ Item code i j k next
-    → (c : ℕ) × (rest : List ℕ) × (s ≡ c ∷ rest) × (numbersOf table c < 4)
+    → (c : ℕ) × (rest : List ℕ) × (s ≡ c ∷ rest) × (numbersOf table c < noCode)
     × (numbersFrom (numbersOf table c) bytes at c [] (at + 1) ≡ Item code i j k next)
 coded table bytes at [] e = never (cc)
 coded table bytes at (c ∷ rest) e =
-    by-cases (decLt (numbersOf table c) 4)
-    (λ t. (c, rest, refl, t, rw (lt-leb 4 (numbersOf table c) t) at e))
-    λ t. never (cc (rw (le-leb 4 (numbersOf table c) (omega arith)) at e))
+    by-cases (decLt (numbersOf table c) noCode)
+    (λ t. (c, rest, refl, t, rw (lt-leb noCode (numbersOf table c) t) at e))
+    λ t. never (cc (rw (le-leb noCode (numbersOf table c) (omega arith)) at e))
 
 -- an item that is read stands there by its bytes, and what stands there by an item's bytes is read
 module _ (table : Table) (bytes : List ℕ) (at : ℕ) where
@@ -199,7 +199,7 @@ module _ (table : Table) (bytes : List ℕ) (at : ℕ) where
       let fit : AllFit all = elim [ zero ↦ f .first | suc zero ↦ f .second | suc (suc zero) ↦ f .third | suc (suc (suc x)) ↦ omega arith ] in
       let numbers = (parted bytes at (code ∷ []) (numbersBytes ns) s) .1 in
       let r = numbers-there bytes at code ns [] (at + 1) next (λ x. rw (← same x) (fit x)) numbers in
-      rw (s .here, lt-leb 4 (numbersOf table code) (f .known)) (rw (l, ← same 0, ← same 1, ← same 2) at r)
+      rw (s .here, lt-leb noCode (numbersOf table code) (f .known)) (rw (l, ← same 0, ← same 1, ← same 2) at r)
 
   pub item-back : (code i j k next : ℕ) → AllBytes bytes → itemAt table bytes at ≡ Item code i j k next
       → Fitting table code i j k × Stands bytes at (itemBytes table code i j k) next

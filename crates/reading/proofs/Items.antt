@@ -11,7 +11,7 @@ use native.Mathlib.Omega.{arith}
 use borrow.Author.Tests.{le-leb, lt-leb}
 use lib.ListN.{length, getD, set, replicate, length-append, drop-of-length-le}
 use lib.Seq.{drop-cons}
-use Rattle.reading.specs.Items.{itemAt, numbersFrom, numbersOf, withNumber}
+use Rattle.reading.specs.Items.{itemAt, numbersFrom, numbersOf, noCode, withNumber}
 use Rattle.reading.specs.Numbers.{numberAt}
 use Rattle.reading.specs.Padded.{padded}
 use Rattle.reading.specs.declared.item.Table.{Table}
@@ -46,7 +46,7 @@ module _ (bytes : List ℕ) (at code count : ℕ) where
       one-more = omega arith
 
       -- one more number
-      pub more : (n behind : ℕ) → count < 4 → Value n behind ≡ numberAt bytes next → Reading (set numbers k n) behind (k + 1)
+      pub more : (n behind : ℕ) → count < noCode → Value n behind ≡ numberAt bytes next → Reading (set numbers k n) behind (k + 1)
       unfolding numbersFrom
       more n behind small e =
           record {
@@ -72,13 +72,13 @@ module _ (table : Table) (bytes : List ℕ) (at : ℕ) where
   ended h = rw (drop-of-length-le bytes h)
 
   module _ (inside : at < length bytes) (count : ℕ) (is : count ≡ numbersOf table (getD bytes at 0)) where
-    pub unknown : 4 ≤ count → Refused (UnknownCode at) ≡ itemAt table bytes at
+    pub unknown : noCode ≤ count → Refused (UnknownCode at) ≡ itemAt table bytes at
     unfolding itemAt
-    unknown h = rw (drop-cons bytes at 0 inside, ← is, le-leb 4 count h)
+    unknown h = rw (drop-cons bytes at 0 inside, ← is, le-leb noCode count h)
 
-    pub known : count < 4 → numbersFrom count bytes at (getD bytes at 0) [] (at + 1) ≡ itemAt table bytes at
+    pub known : count < noCode → numbersFrom count bytes at (getD bytes at 0) [] (at + 1) ≡ itemAt table bytes at
     unfolding itemAt
-    known h = rw (drop-cons bytes at 0 inside, ← is, lt-leb 4 count h)
+    known h = rw (drop-cons bytes at 0 inside, ← is, lt-leb noCode count h)
 
 -- the numbers of an item are never the end
 never-end : (m : ℕ) (bytes : List ℕ) (at code : ℕ) (read : List ℕ) (next : ℕ) → numbersFrom m bytes at code read next ≡ End → ⊥
@@ -101,7 +101,7 @@ end-back table bytes at e =
     inside : at < length bytes → ⊥
     inside h =
         let n = numbersOf table (getD bytes at 0) in
-        by-cases (decLt n 4)
+        by-cases (decLt n noCode)
         (λ t. never-end n bytes at (getD bytes at 0) [] (at + 1) (known table bytes at h n refl t ∙ e))
         (λ t.
         let u : Refused (UnknownCode at) ≡ itemAt table bytes at = unknown table bytes at h n refl (omega arith) in

@@ -4,3 +4,4 @@ pub mod Padded
 pub mod Written
 pub mod Items
 pub mod Bytes
+pub mod Unique

@@ -8,60 +8,58 @@ use lib.Dec.{eqb, leb}
 use lib.ListN.{getD, take, drop}
 use Rattle.reading.specs.Numbers.{numberAt, numberBytes}
 use Rattle.reading.specs.declared.number.Number.{Number}
-use Rattle.reading.specs.declared.number.Number.the-variants.{Value, Short, Long}
 use Rattle.reading.specs.declared.item.Table.{Table}
-use Rattle.reading.specs.declared.item.Table.the-variants.{Rule, Code}
 use Rattle.reading.specs.declared.item.Read.{Read}
-use Rattle.reading.specs.declared.item.Read.the-variants.{Item, End, Refused}
 use Rattle.reading.specs.declared.refusal.Refusal.{Refusal}
-use Rattle.reading.specs.declared.refusal.Refusal.the-variants.{UnknownCode, CutShort, NotShortest}
 
 -- A row of a table of codes: the code byte, and how many numbers follow it
 pub record Row : Type 0 where
   pub code : ℕ
   pub numbers : ℕ
 
+abbrev pub row : ℕ → ℕ → Row
+row code numbers = record { code = code; numbers = numbers }
+
 -- The codes of rules
 unfoldable pub ruleCodes : List Row
 ruleCodes =
-    record { code = 0x10; numbers = 0 } ∷ record { code = 0x11; numbers = 0 } ∷ record { code = 0x12; numbers = 1 }
-    ∷ record { code = 0x20; numbers = 0 } ∷ record { code = 0x21; numbers = 0 } ∷ record { code = 0x22; numbers = 0 }
-    ∷ record { code = 0x30; numbers = 2 } ∷ record { code = 0x31; numbers = 2 } ∷ record { code = 0x32; numbers = 2 }
-    ∷ record { code = 0x33; numbers = 2 } ∷ []
+    row 0x10 0 ∷ row 0x11 0 ∷ row 0x12 1 ∷ row 0x20 0 ∷ row 0x21 0 ∷ row 0x22 0 ∷ row 0x30 2 ∷ row 0x31 2 ∷ row 0x32 2 ∷ row 0x33 2 ∷ []
 
 -- The codes of instructions
 unfoldable pub instructionCodes : List Row
-instructionCodes =
-    record { code = 0x01; numbers = 0 } ∷ record { code = 0x02; numbers = 1 } ∷ record { code = 0x03; numbers = 2 }
-    ∷ record { code = 0x04; numbers = 3 } ∷ record { code = 0x05; numbers = 2 } ∷ []
+instructionCodes = row 0x01 0 ∷ row 0x02 1 ∷ row 0x03 2 ∷ row 0x04 3 ∷ row 0x05 2 ∷ []
 
--- How many numbers follow a code byte; 4 for one that no row has
+-- What stands for the number of numbers where a code byte is unknown: more than any item has
+abbrev pub noCode : ℕ
+noCode = 4
+
+-- How many numbers follow a code byte
 unfoldable pub look : ℕ → List Row → ℕ
-look code [] = 4
+look code [] = noCode
 look code (row ∷ rows) = cond (eqb code (row .code)) (row .numbers) (look code rows)
 
 -- The same by table: rules and code have separate ones
 abbrev pub numbersOf : Table → ℕ → ℕ
-numbersOf Rule code = look code ruleCodes
-numbersOf Code code = look code instructionCodes
+numbersOf Table.Rule code = look code ruleCodes
+numbersOf Table.Code code = look code instructionCodes
 
 -- A number of the item at `at`: what follows goes on with its value and the place behind it; 3 if the bytes end, 4 for a form that isn't allowed
 abbrev pub withNumber : ℕ → Number → (ℕ → ℕ → Read) → Read
-withNumber at (Value n next) more = more n next
-withNumber at Short more = Refused (CutShort at)
-withNumber at Long more = Refused (NotShortest at)
+withNumber at (Number.Value n next) more = more n next
+withNumber at Number.Short more = Read.Refused (Refusal.CutShort at)
+withNumber at Number.Long more = Read.Refused (Refusal.NotShortest at)
 
 -- The item at `at` from the place `next` on, where so many numbers are still to come after those read: they are read in turn, and those that an item lacks are 0
 unfoldable pub numbersFrom : ℕ → List ℕ → ℕ → ℕ → List ℕ → ℕ → Read
-numbersFrom zero bytes at code read next = Item code (getD read 0 0) (getD read 1 0) (getD read 2 0) next
+numbersFrom zero bytes at code read next = Read.Item code (getD read 0 0) (getD read 1 0) (getD read 2 0) next
 numbersFrom (suc more) bytes at code read next =
     withNumber at (numberAt bytes next) λ n behind. numbersFrom more bytes at code (read ++ n ∷ []) behind
 
 -- An item whose bytes, from place `at` on, are given: its first byte is its code
 abbrev pub codeFirst : Table → List ℕ → ℕ → List ℕ → Read
-codeFirst table bytes at [] = End
+codeFirst table bytes at [] = Read.End
 codeFirst table bytes at (code ∷ rest) =
-    cond (leb 4 (numbersOf table code)) (Refused (UnknownCode at))
+    cond (leb noCode (numbersOf table code)) (Read.Refused (Refusal.UnknownCode at))
     (numbersFrom (numbersOf table code) bytes at code [] (at + 1))
 
 -- The item at a place of some bytes, by the table of codes

@@ -7,17 +7,16 @@ use lib.Dec.{ltb, leb, eqb}
 use lib.ListN.{length, take, drop}
 use Rattle.reading.specs.Limits.{limits}
 use Rattle.reading.specs.declared.number.Number.{Number}
-use Rattle.reading.specs.declared.number.Number.the-variants.{Value, Short, Long}
 
 -- A number whose first byte, at place `at`, is `low` with its top bit set: a second byte of 0 is not shortest, and one with its top bit set is not allowed
 abbrev pub secondByte : ℕ → ℕ → List ℕ → Number
-secondByte at low [] = Short
-secondByte at low (high ∷ rest) = cond (eqb high 0 || leb 128 high) Long (Value (low - 128 + 128 * high) (at + 2))
+secondByte at low [] = Number.Short
+secondByte at low (high ∷ rest) = cond (eqb high 0 || leb 128 high) Number.Long (Number.Value (low - 128 + 128 * high) (at + 2))
 
 -- The number with which a list of bytes, from place `at` on, begins
 abbrev pub firstByte : ℕ → List ℕ → Number
-firstByte at [] = Short
-firstByte at (low ∷ rest) = cond (ltb low 128) (Value low (at + 1)) (secondByte at low rest)
+firstByte at [] = Number.Short
+firstByte at (low ∷ rest) = cond (ltb low 128) (Number.Value low (at + 1)) (secondByte at low rest)
 
 -- The number at a place of some bytes
 unfoldable pub numberAt : List ℕ → ℕ → Number

@@ -3,7 +3,7 @@ ghost use mathlib.Core.List.{[]};
 ghost use mathlib.Core.Path.{_≡_};
 ghost use Prim.Native.Nat.{_+_, _<_};
 ghost use lib.ListN.{length};
-ghost use Rattle.reading.specs.Items.{itemAt, numbersFrom, numbersOf, look, ruleCodes, instructionCodes};
+ghost use Rattle.reading.specs.Items.{itemAt, numbersFrom, noCode, numbersOf, look, ruleCodes, instructionCodes};
 use crate::number::Number;
 use crate::number::read_number;
 use crate::refusal::Refusal;
@@ -27,7 +27,7 @@ pub enum Read {
     Refused(Refusal),
 }
 
-// Where a code byte is unknown.
+// More numbers than an item has, where a code byte is unknown.
 const UNKNOWN: usize = 4;
 
 // How many numbers follow a code byte of a rule.
@@ -75,7 +75,7 @@ fn numbers_of(table: Table, code: u8) -> usize
 
 // Reads the numbers of the item at `at` in turn; the first fault decides.
 fn read_numbers(bytes: &[u8], at: usize, code: u8, count: usize) -> Read
-    requires { ⌜ (at < length (now bytes)) × (count < 4) ⌝ }
+    requires { ⌜ (at < length (now bytes)) × (count < noCode) ⌝ }
     ensures { λ r. ⌜ r ≡ numbersFrom count (now (bytes .entry)) at code [] (at + 1) ⌝ }
 {
     let mut numbers = [0u16; 3];

@@ -8,3 +8,6 @@ pub mod Walking
 pub mod Turns
 pub mod RuleBytes
 pub mod Accepted
+pub mod Samples
+pub mod Unique
+pub mod Complete

@@ -7,7 +7,7 @@ use native.Mathlib.Decide.{ℕ-discrete, decLt}
 use native.Mathlib.Omega.{arith}
 use borrow.Author.Tests.{ne-eqb, lt-ltb, le-ltb, lt-leb, le-leb}
 use lib.ListN.{length, length-append}
-use Rattle.reading.specs.Items.{itemAt, itemBytes, numbersOf, numbersBytes, look, ruleCodes}
+use Rattle.reading.specs.Items.{itemAt, itemBytes, numbersOf, noCode, numbersBytes, look, ruleCodes}
 use Rattle.reading.specs.Limits.{limits}
 use Rattle.reading.specs.Numbers.{numberBytes}
 use Rattle.reading.specs.declared.item.Read.{Read}
@@ -19,7 +19,7 @@ use Rattle.rules.specs.Loading.{Items, timedIn}
 use Rattle.rules.specs.declared.item.Item.{Item}
 
 -- what holds of the ten codes holds of each code that the table knows
-by-code : (P : ℕ → Type 0) → P 0x10 → P 0x11 → P 0x12 → P 0x20 → P 0x21 → P 0x22 → P 0x30 → P 0x31 → P 0x32 → P 0x33 → (code : ℕ) → numbersOf Table.Rule code < 4 → P code
+by-code : (P : ℕ → Type 0) → P 0x10 → P 0x11 → P 0x12 → P 0x20 → P 0x21 → P 0x22 → P 0x30 → P 0x31 → P 0x32 → P 0x33 → (code : ℕ) → numbersOf Table.Rule code < noCode → P code
 unfolding look ruleCodes
 by-code P a b c d e f g h i j code known =
     is 0x10 a λ n1. is 0x11 b λ n2. is 0x12 c λ n3. is 0x20 d λ n4. is 0x21 e λ n5. is 0x22 f λ n6. is 0x30 g λ n7. is 0x31 h λ n8. is 0x32 i λ n9. is 0x33 j λ n10.
@@ -28,10 +28,10 @@ by-code P a b c d e f g h i j code known =
     is : (k : ℕ) → P k → ((code ≡ k → ⊥) → P code) → P code
     is k p rest = by-cases (ℕ-discrete code k) (λ q. subst P (sym q) p) rest
 
-    never : 4 < 4 → ⊥
+    never : noCode < noCode → ⊥
     never q = omega arith
 
-item-bytes : (code : ℕ) → numbersOf Table.Rule code < 4 → (i j k : ℕ) → itemBytes Table.Rule code i j k ≡ bytesOf (itemOf code i i j)
+pub item-bytes : (code : ℕ) → numbersOf Table.Rule code < noCode → (i j k : ℕ) → itemBytes Table.Rule code i j k ≡ bytesOf (itemOf code i i j)
 unfolding itemBytes numbersBytes look ruleCodes bytesOf itemOf
 item-bytes =
     by-code (λ code. (i j k : ℕ) → itemBytes Table.Rule code i j k ≡ bytesOf (itemOf code i i j))

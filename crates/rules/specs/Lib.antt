@@ -5,4 +5,5 @@ pub mod Items
 pub mod Loading
 pub mod Good
 pub mod Accepted
+pub mod Samples
 pub mod Walking
