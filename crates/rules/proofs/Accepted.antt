@@ -19,8 +19,8 @@ use Rattle.rules.specs.Good.{Good, postfix, postfixes}
 use Rattle.rules.specs.Items.{itemOf, apply, ruleBytes}
 use Rattle.rules.specs.Loading.{Items, Reading, accepted, refused, oneValue, atEnd, afterRead, afterJudged, judgeOf, countsOf, stackFrom, stackOf, timedIn, readFrom, readRule}
 use Rattle.rules.specs.declared.item.Item.{Item}
-use Rattle.rules.specs.declared.load.Counts.{Counts}
-use Rattle.rules.specs.declared.load.Judged.{Judged}
+use Rattle.rules.specs.declared.judge.Counts.{Counts}
+use Rattle.rules.specs.declared.judge.Judged.{Judged}
 use Rattle.rules.proofs.Good.{good-none, good-more}
 use Rattle.rules.proofs.Judging.{fine}
 use Rattle.rules.proofs.RuleBytes.{item-stands, rule-length, rule-more}

@@ -18,8 +18,8 @@ use Rattle.rules.specs.Good.{Each, InRange, Fine, postfix}
 use Rattle.rules.specs.Items.{rowOf, itemOf, apply, bytesOf, ruleBytes}
 use Rattle.rules.specs.Loading.{Items, accepted, atEnd, judgeOf, badWindow, tooLarge, countsOf, countedOf, stackFrom, stackOf, timedIn, lowerIn, readFrom, readRule}
 use Rattle.rules.specs.declared.item.Item.{Item}
-use Rattle.rules.specs.declared.load.Counts.{Counts}
-use Rattle.rules.specs.declared.load.Judged.{Judged}
+use Rattle.rules.specs.declared.judge.Counts.{Counts}
+use Rattle.rules.specs.declared.judge.Judged.{Judged}
 use Rattle.rules.proofs.Accepted.{made}
 use Rattle.rules.proofs.RuleBytes.{item-bytes}
 use Rattle.rules.proofs.Stack.{stack-more, timed-more, lower-more}

@@ -11,7 +11,7 @@ use Rattle.rules.specs.Items.{rowOf}
 use Rattle.rules.specs.Loading.{Items, stackFrom, stackOf, timedIn, lowerIn, countsOf, countedOf, Within}
 use Rattle.rules.specs.Walking.{largestOf}
 use Rattle.rules.specs.declared.item.Item.{Item}
-use Rattle.rules.specs.declared.load.Counts.{Counts}
+use Rattle.rules.specs.declared.judge.Counts.{Counts}
 use Rattle.rules.proofs.Stack.{applied, counts-more, stack-more, timed-more}
 
 each-more : {A : Type 0} (P : A → Type 0) (xs : List A) (x : A) → Each P xs → P x → Each P (xs ++ x ∷ [])

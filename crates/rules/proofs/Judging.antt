@@ -11,8 +11,8 @@ use Rattle.rules.specs.Good.{Fine, InRange}
 use Rattle.rules.specs.Items.{rowOf}
 use Rattle.rules.specs.Loading.{judgeOf, badWindow, tooLarge, countedOf}
 use Rattle.rules.specs.declared.item.Item.{Item}
-use Rattle.rules.specs.declared.load.Counts.{Counts}
-use Rattle.rules.specs.declared.load.Judged.{Judged}
+use Rattle.rules.specs.declared.judge.Counts.{Counts}
+use Rattle.rules.specs.declared.judge.Judged.{Judged}
 
 apart : {r : Refusal} {d : Counts} → Judged.Refused r ≡ Judged.Next d → ⊥
 apart e = let z : _≡_ {A = ℕ} 0 1 = cc in omega arith

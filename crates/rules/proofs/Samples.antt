@@ -1,13 +1,15 @@
--- Document 01's marked samples, proved together: the definition that `load` cites computes to each row's answer.
-use mathlib.Core.Path.{_≡_, refl}
-use mathlib.Core.List.{map}
+-- Document 01's marked samples, proved together: the definitions that the contracts cite compute to each row's answer.
+use mathlib.Core.Path.{refl}
 use Rattle.reading.specs.Items.{itemAt, numbersFrom, look, ruleCodes}
 use Rattle.reading.specs.Numbers.{numberAt}
 use Rattle.rules.specs.Formula.{horizon}
+use Rattle.rules.specs.Good.{Each}
 use Rattle.rules.specs.Items.{itemOf, apply}
-use Rattle.rules.specs.Loading.{stackFrom, timedIn, lowerIn, countsOf, countedOf, badWindow, tooLarge, judgeOf, readFrom, readRule, loadedOf}
-use Rattle.rules.specs.Samples.{samples}
+use Rattle.rules.specs.Loading.{stackFrom, timedIn, lowerIn, countsOf, countedOf, badWindow, tooLarge, judgeOf, readFrom, readRule}
+use Rattle.rules.specs.Meaning.{holds, reaches, within, hasFlag}
+use Rattle.rules.specs.Samples.{Right, fromEach, samples}
 
-pub samples-load : map (λ s. loadedOf (readRule (s .rule))) samples ≡ map (λ s. s .loads) samples
-unfolding samples readRule readFrom itemAt numbersFrom look ruleCodes numberAt judgeOf badWindow tooLarge countsOf countedOf timedIn lowerIn stackFrom apply itemOf horizon
-samples-load = refl
+pub samples-right : Each Right samples
+unfolding samples fromEach readRule readFrom itemAt numbersFrom look ruleCodes numberAt judgeOf badWindow tooLarge countsOf countedOf timedIn lowerIn stackFrom apply itemOf horizon holds reaches within hasFlag
+samples-right =
+    (refl, (refl, (refl, (refl, (refl, (refl, (refl, (refl, (refl, (refl, (refl, (refl, (refl, (refl, (refl, (refl, (refl, (refl, (refl, tt)))))))))))))))))))

@@ -19,9 +19,9 @@ use Rattle.rules.specs.Items.{itemOf}
 use Rattle.rules.specs.Loading.{Items, Reading, refused, judgeOf, countsOf, atEnd, readFrom, readRule}
 use Rattle.rules.specs.Walking.{Follows, Ready}
 use Rattle.rules.specs.declared.item.Item.{Item}
-use Rattle.rules.specs.declared.load.Counts.{Counts}
-use Rattle.rules.specs.declared.load.Judged.{Judged}
-use Rattle.rules.specs.declared.load.Walk.{Walk}
+use Rattle.rules.specs.declared.judge.Counts.{Counts}
+use Rattle.rules.specs.declared.judge.Judged.{Judged}
+use Rattle.rules.specs.declared.walk.Walk.{Walk}
 use Rattle.rules.proofs.Good.{good-none, good-more}
 use Rattle.rules.proofs.Judging.{fine}
 

@@ -17,9 +17,9 @@ use Rattle.rules.specs.Loading.{Items, Reading, accepted, refused, oneVa
 use Rattle.rules.specs.Walking.{Stacked, largestOf, Follows, Ready, ruleWith}
 use Rattle.rules.specs.declared.item.Item.{Item}
 use Rattle.rules.specs.declared.item.Row.{Row}
-use Rattle.rules.specs.declared.load.Counts.{Counts}
+use Rattle.rules.specs.declared.judge.Counts.{Counts}
 use Rattle.rules.specs.declared.load.Loaded.{Loaded}
-use Rattle.rules.specs.declared.load.Walk.{Walk}
+use Rattle.rules.specs.declared.walk.Walk.{Walk}
 use Rattle.reading.specs.declared.refusal.Refusal.{Refusal}
 use Rattle.rules.proofs.Good.{largest-bound}
 use Rattle.rules.proofs.Stack.{applied, counts-more, stack-more}

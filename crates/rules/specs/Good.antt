@@ -8,7 +8,7 @@ use Rattle.rules.specs.Formula.{Formula, True, False, Flag, Not, And, Or
 use Rattle.rules.specs.Items.{rowOf}
 use Rattle.rules.specs.Loading.{Items, Within, countsOf, countedOf, stackOf, timedIn}
 use Rattle.rules.specs.declared.item.Item.{Item}
-use Rattle.rules.specs.declared.load.Counts.{Counts}
+use Rattle.rules.specs.declared.judge.Counts.{Counts}
 
 -- Each element of a list has a property
 abbrev pub Each : {A : Type 0} → (A → Type 0) → List A → Type 0

@@ -16,8 +16,8 @@ use Rattle.rules.specs.Formula.{Formula, horizon}
 use Rattle.rules.specs.Items.{rowOf, itemOf, apply}
 use Rattle.rules.specs.declared.item.Item.{Item}
 use Rattle.rules.specs.declared.item.Row.{Row}
-use Rattle.rules.specs.declared.load.Counts.{Counts}
-use Rattle.rules.specs.declared.load.Judged.{Judged}
+use Rattle.rules.specs.declared.judge.Counts.{Counts}
+use Rattle.rules.specs.declared.judge.Judged.{Judged}
 use Rattle.rules.specs.declared.load.Rule.{Rule}
 use Rattle.rules.specs.declared.load.Loaded.{Loaded}
 

@@ -1,21 +1,35 @@
--- Document 01's samples that are marked to be proved, as one table: rule bytes, and what loading answers.
+-- Document 01's samples that are marked to be proved, as far as they concern loading and meaning: one table, and what it is for a row to be right.
+use mathlib.Core.Path.{_≡_}
+use mathlib.Core.Bool.{Bool, true, false}
 use mathlib.Core.List.{List, [], _∷_}
 use Prim.Native.Nat.{ℕ}
 use Rattle.reading.specs.declared.refusal.Refusal.{Refusal}
+use Rattle.rules.specs.Formula.{Formula}
+use Rattle.rules.specs.Loading.{Reading, accepted, refused, readRule, loadedOf}
+use Rattle.rules.specs.Meaning.{Clip, holds}
 use Rattle.rules.specs.declared.load.Loaded.{Loaded}
 
--- A row of the table
-pub record Sample : Type 0 where
-  pub rule : List ℕ
-  pub loads : Loaded
+-- A row: a rule and its items and horizon, a rule and its refusal, or a rule, a clip and for each frame whether the clip from it satisfies the rule
+pub data Sample : Type 0 where
+  accepts : List ℕ → ℕ → ℕ → Sample
+  refuses : List ℕ → Refusal → Sample
+  judges : List ℕ → Clip → List Bool → Sample
 
--- A rule that is accepted: its items and its horizon
-abbrev pub accepts : List ℕ → ℕ → ℕ → Sample
-accepts rule items horizon = record { rule = rule; loads = Loaded.Accepted items horizon }
+-- Whether a rule holds on the clip from each frame
+unfoldable pub fromEach : Formula → Clip → List Bool
+fromEach f [] = []
+fromEach f (x ∷ c) = holds f (x ∷ c) ∷ fromEach f c
 
--- A rule that is refused
-abbrev pub refuses : List ℕ → Refusal → Sample
-refuses rule refusal = record { rule = rule; loads = Loaded.Refused refusal }
+-- The same of a rule that was read; of a refused one there is nothing to say
+abbrev pub verdicts : Reading → Clip → List Bool
+verdicts (accepted is f) c = fromEach f c
+verdicts (refused r) c = []
+
+-- A row is right by the definitions that the contracts cite
+abbrev pub Right : Sample → Type 0
+Right (accepts rule items horizon) = loadedOf (readRule rule) ≡ Loaded.Accepted items horizon
+Right (refuses rule refusal) = loadedOf (readRule rule) ≡ Loaded.Refused refusal
+Right (judges rule clip bits) = verdicts (readRule rule) clip ≡ bits
 
 -- The table
 unfoldable pub samples : List Sample
@@ -35,5 +49,8 @@ samples =
     ∷ refuses (0x12 ∷ 0x00 ∷ 0x32 ∷ 0x00 ∷ 0x80 ∷ 0x02 ∷ []) (Refusal.BadWindow 2)
     ∷ refuses (0x21 ∷ []) (Refusal.TooFewOperands 0)
     ∷ refuses (0x10 ∷ 0x10 ∷ []) (Refusal.NotOneValue 2)
-    ∷ accepts (0x12 ∷ 0x00 ∷ 0x12 ∷ 0x01 ∷ 0x30 ∷ 0x01 ∷ 0x03 ∷ []) 3 3
+    ∷ judges (0x12 ∷ 0x00 ∷ 0x12 ∷ 0x01 ∷ 0x30 ∷ 0x01 ∷ 0x03 ∷ []) (0x00 ∷ 0x01 ∷ 0x02 ∷ []) (true ∷ true ∷ false ∷ [])
+    ∷ judges (0x12 ∷ 0x00 ∷ 0x33 ∷ 0x02 ∷ 0x04 ∷ []) (0x00 ∷ []) (true ∷ [])
+    ∷ judges (0x10 ∷ 0x32 ∷ 0x01 ∷ 0x01 ∷ []) (0x00 ∷ 0x00 ∷ []) (true ∷ false ∷ [])
+    ∷ judges (0x12 ∷ 0x00 ∷ 0x32 ∷ 0x02 ∷ 0x04 ∷ []) (0x00 ∷ 0x00 ∷ 0x01 ∷ []) (true ∷ false ∷ false ∷ [])
     ∷ []

@@ -8,10 +8,10 @@ use Rattle.rules.specs.Formula.{horizon}
 use Rattle.rules.specs.Good.{Good, Fine}
 use Rattle.rules.specs.Loading.{Items, countsOf, stackOf, column}
 use Rattle.rules.specs.declared.item.Item.{Item}
-use Rattle.rules.specs.declared.load.Counts.{Counts}
+use Rattle.rules.specs.declared.judge.Counts.{Counts}
 use Rattle.rules.specs.declared.load.Loaded.{Loaded}
 use Rattle.rules.specs.declared.load.Rule.{Rule}
-use Rattle.rules.specs.declared.load.Walk.{Walk}
+use Rattle.rules.specs.declared.walk.Walk.{Walk}
 
 -- An array holds a stack of numbers, the first of the list on top; what lies above is of no account
 unfoldable pub Stacked : List ℕ → List ℕ → Type 0

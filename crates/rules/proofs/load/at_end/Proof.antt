@@ -7,7 +7,7 @@ use Rattle.rules.proofs.load.at_end.Statement.{statement}
 use Rattle.rules.proofs.load.at_end.Tie as tie
 use Rattle.rules.proofs.load.at_end.Reads as reads
 use Rattle.rules.proofs.load.at_end.Lts as lts
-use Rattle.rules.proofs.load.Walk.rule.Reads as rule-reads
+use Rattle.rules.proofs.load.rule_with.Reads as rule-with-reads
 use Rattle.rules.proofs.load.refused.Reads as refused-reads
 
 -- src/load.rt:212:9
@@ -27,12 +27,12 @@ cast-horizon : tie.Need-cast-horizon
 cast-horizon c = search needs
 
 -- src/load.rt:216:5
-rule-requires : tie.Need-rule-requires
-rule-requires c κs = search needs
+rule-with-requires : tie.Need-rule-with-requires
+rule-with-requires c κs = search needs
 
 -- src/load.rt:207:1
 returns-2 : tie.Need-returns-2
-returns-2 c = λ is f. c .rule .ensures ∙ found-one _ is _ f (c .before .before .if1 .left)
+returns-2 c = λ is f. c .rule-with .ensures ∙ found-one _ is _ f (c .before .before .if1 .left)
 
 pub at-end-spec : {M : Type 1} → statement M
 at-end-spec =
@@ -42,5 +42,5 @@ at-end-spec =
     returns
     element-copy-out-horizon
     cast-horizon
-    rule-requires
+    rule-with-requires
     returns-2)

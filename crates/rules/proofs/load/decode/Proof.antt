@@ -13,10 +13,10 @@ use Rattle.rules.proofs.load.decode.Reads as reads
 use Rattle.rules.proofs.load.decode.Lts as lts
 use Rattle.reading.proofs.item.read_item.Reads as read-item-reads
 use Rattle.rules.proofs.item.item_of.Reads as item-of-reads
-use Rattle.rules.proofs.load.Walk.new.Reads as new-reads
-use Rattle.rules.proofs.load.Walk.with.Reads as with-reads
+use Rattle.rules.proofs.walk.Walk.new.Reads as new-reads
+use Rattle.rules.proofs.walk.Walk.with.Reads as with-reads
 use Rattle.rules.proofs.load.at_end.Reads as at-end-reads
-use Rattle.rules.proofs.load.judge.Reads as judge-reads
+use Rattle.rules.proofs.judge.judge.Reads as judge-reads
 use Rattle.rules.proofs.load.refused.Reads as refused-reads
 
 abbrev Inv-loop : tie.InvT-loop

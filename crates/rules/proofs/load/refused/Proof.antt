@@ -6,20 +6,20 @@ use Rattle.rules.proofs.load.refused.Statement.{statement}
 use Rattle.rules.proofs.load.refused.Tie as tie
 use Rattle.rules.proofs.load.refused.Reads as reads
 use Rattle.rules.proofs.load.refused.Lts as lts
-use Rattle.rules.proofs.load.Walk.new.Reads as new-reads
-use Rattle.rules.proofs.load.Walk.rule.Reads as rule-reads
+use Rattle.rules.proofs.walk.Walk.new.Reads as new-reads
+use Rattle.rules.proofs.load.rule_with.Reads as rule-with-reads
 
 -- src/load.rt:203:5
 new-requires : tie.Need-new-requires
 new-requires c κs = search needs
 
 -- src/load.rt:203:5
-rule-requires : tie.Need-rule-requires
-rule-requires c κs = search needs
+rule-with-requires : tie.Need-rule-with-requires
+rule-with-requires c κs = search needs
 
 -- src/load.rt:200:1
 returns : tie.Need-returns
-returns c = c .rule .ensures ∙ found-refused _ _ (c .before .new .ensures)
+returns c = c .rule-with .ensures ∙ found-refused _ _ (c .before .new .ensures)
 
 pub refused-spec : {M : Type 1} → statement M
-refused-spec = tie.close (tie.spec new-requires rule-requires returns)
+refused-spec = tie.close (tie.spec new-requires rule-with-requires returns)

@@ -1,10 +1,10 @@
 -- `bad_window` meets its contract: the tests are the definition's.
 use borrow.Author.Tests.{lt-ltb, le-ltb}
 use Rattle.rules.specs.Loading.{badWindow}
-use Rattle.rules.proofs.load.bad_window.Statement.{statement}
-use Rattle.rules.proofs.load.bad_window.Tie as tie
-use Rattle.rules.proofs.load.bad_window.Reads as reads
-use Rattle.rules.proofs.load.bad_window.Lts as lts
+use Rattle.rules.proofs.judge.bad_window.Statement.{statement}
+use Rattle.rules.proofs.judge.bad_window.Tie as tie
+use Rattle.rules.proofs.judge.bad_window.Reads as reads
+use Rattle.rules.proofs.judge.bad_window.Lts as lts
 
 -- src/load.rt:39:9
 returns : tie.Need-returns

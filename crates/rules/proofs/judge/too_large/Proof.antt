@@ -2,10 +2,10 @@
 use borrow.Author.Tests.{lt-ltb, le-ltb}
 use Rattle.rules.specs.Loading.{tooLarge}
 use mathlib.Core.Bool.{or-true}
-use Rattle.rules.proofs.load.too_large.Statement.{statement}
-use Rattle.rules.proofs.load.too_large.Tie as tie
-use Rattle.rules.proofs.load.too_large.Reads as reads
-use Rattle.rules.proofs.load.too_large.Lts as lts
+use Rattle.rules.proofs.judge.too_large.Statement.{statement}
+use Rattle.rules.proofs.judge.too_large.Tie as tie
+use Rattle.rules.proofs.judge.too_large.Reads as reads
+use Rattle.rules.proofs.judge.too_large.Lts as lts
 
 -- src/load.rt:49:9
 returns : tie.Need-returns

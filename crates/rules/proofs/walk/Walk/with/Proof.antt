@@ -4,12 +4,12 @@ use native.Mathlib.Omega.{arith}
 use mathlib.Core.Path.{_≡_, ap}
 use Rattle.rules.proofs.Walking.{room-of, depth-of, near-of, follows-more}
 use borrow.Author.Needs.{needs}
-use Rattle.rules.proofs.load.Walk.with.Statement.{statement}
-use Rattle.rules.proofs.load.Walk.with.Tie as tie
-use Rattle.rules.proofs.load.Walk.with.Reads as reads
-use Rattle.rules.proofs.load.Walk.with.Lts as lts
+use Rattle.rules.proofs.walk.Walk.with.Statement.{statement}
+use Rattle.rules.proofs.walk.Walk.with.Tie as tie
+use Rattle.rules.proofs.walk.Walk.with.Reads as reads
+use Rattle.rules.proofs.walk.Walk.with.Lts as lts
 use Rattle.rules.proofs.item.row_of.Reads as row-of-reads
-use Rattle.rules.proofs.load.largest.Reads as largest-reads
+use Rattle.rules.proofs.walk.largest.Reads as largest-reads
 
 -- src/load.rt:165:13
 row-of-requires : tie.Need-row-of-requires

@@ -5,10 +5,10 @@ use mathlib.Core.Path.{_≡_, ap}
 use Rattle.rules.specs.Walking.{largestOf}
 use Rattle.rules.proofs.Walking.{largest-one, largest-two}
 use borrow.Author.Needs.{needs}
-use Rattle.rules.proofs.load.largest.Statement.{statement}
-use Rattle.rules.proofs.load.largest.Tie as tie
-use Rattle.rules.proofs.load.largest.Reads as reads
-use Rattle.rules.proofs.load.largest.Lts as lts
+use Rattle.rules.proofs.walk.largest.Statement.{statement}
+use Rattle.rules.proofs.walk.largest.Tie as tie
+use Rattle.rules.proofs.walk.largest.Reads as reads
+use Rattle.rules.proofs.walk.largest.Lts as lts
 
 -- src/load.rt:127:9
 returns : tie.Need-returns

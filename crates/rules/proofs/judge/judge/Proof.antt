@@ -2,14 +2,14 @@
 use borrow.Author.Tests.{lt-ltb, le-ltb}
 use Rattle.rules.specs.Loading.{judgeOf}
 use borrow.Author.Needs.{needs}
-use Rattle.rules.proofs.load.judge.Statement.{statement}
-use Rattle.rules.proofs.load.judge.Tie as tie
-use Rattle.rules.proofs.load.judge.Reads as reads
-use Rattle.rules.proofs.load.judge.Lts as lts
+use Rattle.rules.proofs.judge.judge.Statement.{statement}
+use Rattle.rules.proofs.judge.judge.Tie as tie
+use Rattle.rules.proofs.judge.judge.Reads as reads
+use Rattle.rules.proofs.judge.judge.Lts as lts
 use Rattle.rules.proofs.item.row_of.Reads as row-of-reads
-use Rattle.rules.proofs.load.bad_window.Reads as bad-window-reads
-use Rattle.rules.proofs.load.counted.Reads as counted-reads
-use Rattle.rules.proofs.load.too_large.Reads as too-large-reads
+use Rattle.rules.proofs.judge.bad_window.Reads as bad-window-reads
+use Rattle.rules.proofs.judge.counted.Reads as counted-reads
+use Rattle.rules.proofs.judge.too_large.Reads as too-large-reads
 
 -- src/load.rt:76:9
 row-of-requires : tie.Need-row-of-requires

@@ -2,10 +2,10 @@
 use mathlib.Core.Path.{refl}
 use Rattle.rules.specs.Loading.{countedOf}
 use borrow.Author.Needs.{needs}
-use Rattle.rules.proofs.load.counted.Statement.{statement}
-use Rattle.rules.proofs.load.counted.Tie as tie
-use Rattle.rules.proofs.load.counted.Reads as reads
-use Rattle.rules.proofs.load.counted.Lts as lts
+use Rattle.rules.proofs.judge.counted.Statement.{statement}
+use Rattle.rules.proofs.judge.counted.Tie as tie
+use Rattle.rules.proofs.judge.counted.Reads as reads
+use Rattle.rules.proofs.judge.counted.Lts as lts
 
 -- src/load.rt:64:16
 add-t3 : tie.Need-add-t3

@@ -1,0 +1,15 @@
+-- `rule_with` meets its contract: the fields are copied.
+use mathlib.Core.Path.{refl}
+use Rattle.rules.specs.Walking.{ruleWith}
+use Rattle.rules.proofs.load.rule_with.Statement.{statement}
+use Rattle.rules.proofs.load.rule_with.Tie as tie
+use Rattle.rules.proofs.load.rule_with.Reads as reads
+use Rattle.rules.proofs.load.rule_with.Lts as lts
+
+-- src/load.rt:182:5
+returns : tie.Need-returns
+unfolding ruleWith
+returns c = refl
+
+pub rule-with-spec : {M : Type 1} → statement M
+rule-with-spec = tie.close (tie.spec returns)
