@@ -1,11 +1,11 @@
 -- Laws of `padded`: an element reads the same with and without the zeros behind it, and a store behind the last element adds one.
-use mathlib.Core.Path.{_≡_, refl, ap}
+use mathlib.Core.Path.{_≡_, refl}
 use mathlib.Core.List.{List, [], _∷_, _++_, append-assoc}
-use Prim.Native.Nat.{ℕ, zero, suc, _+_, _-_, _≤_, _<_}
-use native.Mathlib.Nat.{sub-zero, add-zero}
+use Prim.Native.Nat.{ℕ, zero, suc, _-_, _<_}
+use native.Mathlib.Nat.{sub-zero}
 use native.Mathlib.Numerals.{add-one}
 use native.Mathlib.Omega.{arith}
-use lib.ListN.{length, getD, set, replicate, length-append, length-replicate}
+use lib.ListN.{length, getD, set, replicate, length-append}
 use lib.Seq.{set-append-seam}
 use Rattle.reading.specs.Padded.{padded}
 
@@ -27,10 +27,6 @@ getD-padded n xs i = append-zeros xs (n - length xs) i
 pub padded-none : (n : ℕ) → padded n [] ≡ replicate n 0
 unfolding padded
 padded-none n = rw sub-zero
-
-pub length-padded : (n : ℕ) (xs : List ℕ) → length xs ≤ n → length (padded n xs) ≡ n
-unfolding padded
-length-padded n xs h = simp (length-append, length-replicate) (omega arith)
 
 pub set-padded : (n : ℕ) (xs : List ℕ) (v : ℕ) → length xs < n → set (padded n xs) (length xs) v ≡ padded n (xs ++ v ∷ [])
 unfolding padded

@@ -1,13 +1,13 @@
 -- Laws of `written` and `placeAfter`: bytes that fit stand from the place on and the next place is behind them, and bytes that don't leave all as it was.
-use mathlib.Core.Path.{_≡_, refl, sym}
-use mathlib.Core.List.{List, [], _∷_, append-nil}
-use Prim.Native.Nat.{ℕ, suc, _+_, _≤_, _<_}
+use mathlib.Core.Path.{_≡_}
+use mathlib.Core.List.{List, []}
+use Prim.Native.Nat.{ℕ, _+_, _≤_, _<_}
 use native.Mathlib.Nat.{add-zero}
 use native.Mathlib.Decide.{decLe}
 use native.Mathlib.Omega.{arith}
 use mathlib.Core.Logic.{by-cases}
 use borrow.Author.Tests.{le-leb, lt-leb}
-use lib.ListN.{length, take-append-drop}
+use lib.ListN.{length}
 use lib.Seq.{sets, sets-eq}
 use Rattle.reading.specs.Numbers.{written, placeAfter}
 

@@ -2,22 +2,21 @@
 -- there by their bytes, and at the end one value is left, whose items they are.
 use mathlib.Core.Path.{_≡_, refl, sym, ap, _∙_}
 use mathlib.Core.List.{List, [], _∷_, _++_, append-assoc, append-nil}
-use Prim.Native.Nat.{ℕ, zero, suc, _+_, _-_, _*_, _≤_, _<_}
+use Prim.Native.Nat.{ℕ, zero, suc, _-_, _≤_}
 use native.Mathlib.Omega.{arith}
 use mathlib.Core.Logic.{_⊎_, inl, inr, ⊎-elim}
-use lib.ListN.{length, drop, drop-of-length-le}
+use lib.ListN.{length, drop-of-length-le}
 use Rattle.reading.specs.Items.{itemAt}
-use Rattle.reading.specs.Limits.{limits}
 use Rattle.reading.specs.declared.item.Read.{Read}
 use Rattle.reading.specs.declared.item.Table.{Table}
 use Rattle.reading.specs.declared.refusal.Refusal.{Refusal}
 use Rattle.reading.proofs.Bytes.{AllBytes, Stands, joined}
 use Rattle.reading.proofs.Items.{end-back}
 use Rattle.rules.specs.Accepted.{IsRule}
-use Rattle.rules.specs.Formula.{Formula, True, False, Flag, Not, And, Or, Until, Release, Eventually, Globally, horizon}
+use Rattle.rules.specs.Formula.{Formula, True, False, Flag, Not, And, Or, Until, Release, Eventually, Globally}
 use Rattle.rules.specs.Good.{Good, postfix, postfixes}
 use Rattle.rules.specs.Items.{itemOf, apply, ruleBytes}
-use Rattle.rules.specs.Loading.{Items, Reading, accepted, refused, oneValue, atEnd, afterRead, afterJudged, judgeOf, countsOf, stackFrom, stackOf, timedIn, readFrom, readRule}
+use Rattle.rules.specs.Loading.{Items, Reading, accepted, refused, oneValue, atEnd, afterRead, afterJudged, judgeOf, countsOf, stackFrom, stackOf, readFrom, readRule}
 use Rattle.rules.specs.declared.item.Item.{Item}
 use Rattle.rules.specs.declared.judge.Counts.{Counts}
 use Rattle.rules.specs.declared.judge.Judged.{Judged}

@@ -1,14 +1,14 @@
 -- Items that no test refuses stay good: by what one item more does to values and counts.
-use mathlib.Core.Path.{_≡_, refl, sym, ap, _∙_}
+use mathlib.Core.Path.{_≡_, refl, ap, _∙_}
 use mathlib.Core.List.{List, [], _∷_, _++_, map}
-use Prim.Native.Nat.{ℕ, zero, suc, _+_, _*_, _≤_}
+use Prim.Native.Nat.{ℕ, zero, suc, _*_, _≤_}
 use native.Mathlib.Omega.{arith}
-use lib.ListN.{length, take, drop}
+use lib.ListN.{take, drop}
 use Rattle.reading.specs.Limits.{limits}
 use Rattle.rules.specs.Formula.{Formula, horizon}
-use Rattle.rules.specs.Good.{Each, InRange, Fine, Good, postfix, postfixes}
+use Rattle.rules.specs.Good.{Each, InRange, Fine, Good, postfixes}
 use Rattle.rules.specs.Items.{rowOf}
-use Rattle.rules.specs.Loading.{Items, stackFrom, stackOf, timedIn, lowerIn, countsOf, countedOf, Within}
+use Rattle.rules.specs.Loading.{Items, stackFrom, stackOf, timedIn, lowerIn, countsOf, countedOf}
 use Rattle.rules.specs.Walking.{largestOf}
 use Rattle.rules.specs.declared.item.Item.{Item}
 use Rattle.rules.specs.declared.judge.Counts.{Counts}

@@ -1,5 +1,5 @@
 -- An item that is not refused has passed each test: of nested choices between a refusal and the rest, none took the refusal.
-use mathlib.Core.Path.{_≡_, refl, sym}
+use mathlib.Core.Path.{_≡_, refl}
 use mathlib.Core.Bool.{Bool, true, false, cond, _||_}
 use Prim.Native.Nat.{ℕ}
 use native.Mathlib.Omega.{arith}
@@ -7,7 +7,7 @@ use borrow.Author.Tests.{ltb-false}
 use lib.Dec.{ltb}
 use Rattle.reading.specs.Limits.{limits}
 use Rattle.reading.specs.declared.refusal.Refusal.{Refusal}
-use Rattle.rules.specs.Good.{Fine, InRange}
+use Rattle.rules.specs.Good.{Fine}
 use Rattle.rules.specs.Items.{rowOf}
 use Rattle.rules.specs.Loading.{judgeOf, badWindow, tooLarge, countedOf}
 use Rattle.rules.specs.declared.item.Item.{Item}

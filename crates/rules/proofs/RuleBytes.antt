@@ -1,5 +1,5 @@
 -- Items and their bytes: an item that is read stands there by the bytes of the item that it is, whichever of the ten codes it has; and items in range are short.
-use mathlib.Core.Path.{_≡_, refl, sym, subst, ap}
+use mathlib.Core.Path.{_≡_, refl, sym, subst}
 use mathlib.Core.List.{List, [], _∷_, _++_, append-nil, append-assoc}
 use mathlib.Core.Logic.{by-cases}
 use Prim.Native.Nat.{ℕ, _+_, _*_, _≤_, _<_}
@@ -12,7 +12,7 @@ use Rattle.reading.specs.Limits.{limits}
 use Rattle.reading.specs.Numbers.{numberBytes}
 use Rattle.reading.specs.declared.item.Read.{Read}
 use Rattle.reading.specs.declared.item.Table.{Table}
-use Rattle.reading.proofs.Bytes.{AllBytes, Stands, Fitting, item-back}
+use Rattle.reading.proofs.Bytes.{AllBytes, Stands, item-back}
 use Rattle.rules.specs.Good.{Each, InRange}
 use Rattle.rules.specs.Items.{itemOf, rowOf, bytesOf, ruleBytes}
 use Rattle.rules.specs.Loading.{Items, timedIn}

@@ -1,10 +1,10 @@
 -- What one item more does: to the values that items make, to what is counted of them, and to the largest horizon. Each is a case for each of the ten items.
-use mathlib.Core.Path.{_≡_, refl, ap, sym, _∙_}
-use mathlib.Core.List.{List, [], _∷_, _++_, map, append-assoc, append-nil}
-use Prim.Native.Nat.{ℕ, zero, suc, _+_, _-_, _*_, _≤_, _<_, max}
-use native.Mathlib.Nat.{add-zero, zero-add, add-assoc, add-comm}
+use mathlib.Core.Path.{_≡_, refl, sym}
+use mathlib.Core.List.{List, [], _∷_, _++_, map, map-append, append-assoc, append-nil}
+use Prim.Native.Nat.{_+_, _-_, _≤_, max}
 use native.Mathlib.Omega.{arith}
-use lib.ListN.{length, take, drop, length-append}
+use lib.ListN.{length, take, drop, length-append, length-map}
+use lib.Seq.{drop-append-seam, take-at}
 use Rattle.rules.specs.Formula.{Formula, horizon}
 use Rattle.rules.specs.Items.{rowOf, apply}
 use Rattle.rules.specs.Good.{postfix, postfixes}
@@ -38,60 +38,48 @@ pub record Applied (i : Item) (st : List Formula) : Type 0 where
   pub far : horizon value ≡ rowOf i .upper + largestOf (take (rowOf i .operands) (map horizon st))
   pub items : postfixes rest ++ postfix value ≡ postfixes st ++ i ∷ []
 
-none : (i : Item) (st : List Formula) (v : Formula) → apply i st ≡ v ∷ st → rowOf i .operands ≡ 0 → horizon v ≡ rowOf i .upper → postfix v ≡ i ∷ [] → Applied i st
-unfolding largestOf
-none i st v is o h p =
-    record { value = v; rest = st; gives = is; left = omega arith; tail = rw o; far = rw o (omega arith); items = rw p }
+postfixes-append : (taken rest : List Formula) → postfixes (taken ++ rest) ≡ postfixes rest ++ postfixes taken
+unfolding postfixes
+postfixes-append [] rest = rw append-nil
+postfixes-append (f ∷ taken) rest = rw (postfixes-append taken rest, append-assoc)
 
-one : (i : Item) (f : Formula) (st : List Formula) (v : Formula) → apply i (f ∷ st) ≡ v ∷ st → rowOf i .operands ≡ 1 → horizon v ≡ rowOf i .upper + horizon f → postfix v ≡ postfix f ++ i ∷ [] → Applied i (f ∷ st)
-unfolding largestOf postfixes
-one i f st v is o h p =
+-- by its operands, the last one first
+of : (i : Item) (taken rest : List Formula) (v : Formula) → apply i (taken ++ rest) ≡ v ∷ rest → rowOf i .operands ≡ length taken
+    → horizon v ≡ rowOf i .upper + largestOf (map horizon taken) → postfix v ≡ postfixes taken ++ i ∷ [] → Applied i (taken ++ rest)
+of i taken rest v is o far items =
     record {
       value = v;
-      rest = st;
+      rest = rest;
       gives = is;
-      left = omega arith;
-      tail = rw o;
-      far = rw o (omega arith);
-      items = simp (p, append-assoc);
-    }
-
-two : (i : Item) (f g : Formula) (st : List Formula) (v : Formula) → apply i (g ∷ f ∷ st) ≡ v ∷ st → rowOf i .operands ≡ 2 → horizon v ≡ rowOf i .upper + max (horizon f) (horizon g) → postfix v ≡ postfix f ++ (postfix g ++ i ∷ []) → Applied i (g ∷ f ∷ st)
-unfolding largestOf postfixes
-two i f g st v is o h p =
-    record {
-      value = v;
-      rest = st;
-      gives = is;
-      left = omega arith;
-      tail = rw o;
-      far = rw o (omega arith);
-      items = simp (p, append-assoc);
+      left = simp length-append (omega arith);
+      tail = rw (o, drop-append-seam);
+      far = rw (o, map-append, take-at (map horizon taken) _ _ (length-map taken horizon)) far;
+      items = rw (items, postfixes-append, append-assoc);
     }
 
 pub applied : (i : Item) (st : List Formula) → rowOf i .operands ≤ length st → Applied i st
-unfolding apply horizon postfix
-applied Item.True st h = none Item.True st Formula.True refl refl refl refl
-applied Item.False st h = none Item.False st Formula.False refl refl refl refl
-applied (Item.Flag k) st h = none (Item.Flag k) st (Formula.Flag k) refl refl refl refl
+unfolding apply horizon largestOf postfix postfixes
+applied Item.True st h = of Item.True [] st Formula.True refl refl refl refl
+applied Item.False st h = of Item.False [] st Formula.False refl refl refl refl
+applied (Item.Flag k) st h = of (Item.Flag k) [] st (Formula.Flag k) refl refl refl refl
 applied Item.Not [] h = absurd (omega arith)
-applied Item.Not (f ∷ st) h = one Item.Not f st (Formula.Not f) refl refl (omega arith) refl
+applied Item.Not (f ∷ st) h = of Item.Not (f ∷ []) st (Formula.Not f) refl refl (omega arith) refl
+applied (Item.Eventually a b) [] h = absurd (omega arith)
+applied (Item.Eventually a b) (f ∷ st) h = of (Item.Eventually a b) (f ∷ []) st (Formula.Eventually a b f) refl refl (omega arith) refl
+applied (Item.Globally a b) [] h = absurd (omega arith)
+applied (Item.Globally a b) (f ∷ st) h = of (Item.Globally a b) (f ∷ []) st (Formula.Globally a b f) refl refl (omega arith) refl
 applied Item.And [] h = absurd (omega arith)
 applied Item.And (g ∷ []) h = absurd (omega arith)
-applied Item.And (g ∷ f ∷ st) h = two Item.And f g st (Formula.And f g) refl refl (omega arith) refl
+applied Item.And (g ∷ f ∷ st) h = of Item.And (g ∷ f ∷ []) st (Formula.And f g) refl refl (omega arith) (simp append-assoc)
 applied Item.Or [] h = absurd (omega arith)
 applied Item.Or (g ∷ []) h = absurd (omega arith)
-applied Item.Or (g ∷ f ∷ st) h = two Item.Or f g st (Formula.Or f g) refl refl (omega arith) refl
+applied Item.Or (g ∷ f ∷ st) h = of Item.Or (g ∷ f ∷ []) st (Formula.Or f g) refl refl (omega arith) (simp append-assoc)
 applied (Item.Until a b) [] h = absurd (omega arith)
 applied (Item.Until a b) (g ∷ []) h = absurd (omega arith)
-applied (Item.Until a b) (g ∷ f ∷ st) h = two (Item.Until a b) f g st (Formula.Until a b f g) refl refl refl refl
+applied (Item.Until a b) (g ∷ f ∷ st) h = of (Item.Until a b) (g ∷ f ∷ []) st (Formula.Until a b f g) refl refl (omega arith) (simp append-assoc)
 applied (Item.Release a b) [] h = absurd (omega arith)
 applied (Item.Release a b) (g ∷ []) h = absurd (omega arith)
-applied (Item.Release a b) (g ∷ f ∷ st) h = two (Item.Release a b) f g st (Formula.Release a b f g) refl refl refl refl
-applied (Item.Eventually a b) [] h = absurd (omega arith)
-applied (Item.Eventually a b) (f ∷ st) h = one (Item.Eventually a b) f st (Formula.Eventually a b f) refl refl refl refl
-applied (Item.Globally a b) [] h = absurd (omega arith)
-applied (Item.Globally a b) (f ∷ st) h = one (Item.Globally a b) f st (Formula.Globally a b f) refl refl refl refl
+applied (Item.Release a b) (g ∷ f ∷ st) h = of (Item.Release a b) (g ∷ f ∷ []) st (Formula.Release a b f g) refl refl (omega arith) (simp append-assoc)
 
 -- with operands enough, the counts with one item more are those of the items with it
 pub counts-more : (is : Items) (i : Item) → rowOf i .operands ≤ countsOf is .depth → countedOf (countsOf is) (rowOf i) ≡ countsOf (is ++ i ∷ [])

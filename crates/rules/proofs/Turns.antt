@@ -1,11 +1,10 @@
 -- The walk over a rule turn by turn. `Turn` says where it stands: the items read are good, and the rule from here on, after these items, is the rule. Each way out
 -- of a turn is a law: one item more, the end, or a refusal.
-use mathlib.Core.Path.{_≡_, refl, sym, ap, _∙_}
+use mathlib.Core.Path.{_≡_, refl, sym}
 use mathlib.Core.List.{List, [], _∷_, _++_}
 use mathlib.Core.Logic.{by-cases}
 use Prim.Native.Nat.{ℕ, zero, suc, _-_, _≤_, _<_}
 use native.Mathlib.Decide.{decLt}
-use native.Mathlib.Nat.{sub-zero}
 use native.Mathlib.Omega.{arith}
 use lib.ListN.{length}
 use Rattle.reading.specs.Items.{itemAt, itemBytes}
@@ -16,7 +15,7 @@ use Rattle.reading.proofs.Bytes.{AllBytes, item-back}
 use Rattle.reading.proofs.Items.{ended}
 use Rattle.rules.specs.Good.{Good}
 use Rattle.rules.specs.Items.{itemOf}
-use Rattle.rules.specs.Loading.{Items, Reading, refused, judgeOf, countsOf, atEnd, readFrom, readRule}
+use Rattle.rules.specs.Loading.{Items, refused, judgeOf, countsOf, atEnd, readFrom, readRule}
 use Rattle.rules.specs.Walking.{Follows, Ready}
 use Rattle.rules.specs.declared.item.Item.{Item}
 use Rattle.rules.specs.declared.judge.Counts.{Counts}

@@ -3,15 +3,13 @@
 use mathlib.Core.Path.{_≡_, refl, sym, ap, _∙_}
 use mathlib.Core.List.{List, [], _∷_, _++_, map, map-append}
 use Prim.Native.Nat.{ℕ, zero, suc, _+_, _-_, _*_, _≤_, _<_, max}
-use native.Mathlib.Numerals.{add-one}
 use native.Mathlib.Omega.{arith}
-use lib.ListN.{length, getD, take, drop, set, length-map, length-set, replicate, length-replicate}
+use lib.ListN.{length, getD, take, drop, set, length-map, length-set, replicate}
 use lib.Seq.{getD-set-same, getD-set-other}
 use Rattle.reading.specs.Limits.{limits}
 use Rattle.reading.specs.Padded.{padded}
-use Rattle.reading.proofs.Padded.{set-padded, padded-none}
+use Rattle.reading.proofs.Padded.{set-padded}
 use Rattle.rules.specs.Formula.{Formula, horizon}
-use Rattle.rules.specs.Good.{Good, Fine}
 use Rattle.rules.specs.Items.{rowOf}
 use Rattle.rules.specs.Loading.{Items, Reading, accepted, refused, oneValue, itemsOf, loadedOf, ruleOf, stackFrom, stackOf, timedIn, lowerIn, countsOf, countedOf, column}
 use Rattle.rules.specs.Walking.{Stacked, largestOf, Follows, Ready, ruleWith}

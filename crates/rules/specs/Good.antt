@@ -2,11 +2,11 @@
 -- together, operands before operators.
 use mathlib.Core.Path.{_≡_}
 use mathlib.Core.List.{List, [], _∷_, _++_}
-use Prim.Native.Nat.{ℕ, _*_, _≤_}
+use Prim.Native.Nat.{_*_, _≤_}
 use Rattle.reading.specs.Limits.{limits}
 use Rattle.rules.specs.Formula.{Formula, True, False, Flag, Not, And, Or, Until, Release, Eventually, Globally, horizon}
 use Rattle.rules.specs.Items.{rowOf}
-use Rattle.rules.specs.Loading.{Items, Within, countsOf, countedOf, stackOf, timedIn}
+use Rattle.rules.specs.Loading.{Items, countsOf, countedOf, stackOf, timedIn}
 use Rattle.rules.specs.declared.item.Item.{Item}
 use Rattle.rules.specs.declared.judge.Counts.{Counts}
 
@@ -20,6 +20,13 @@ pub record InRange (i : Item) : Type 0 where
   pub flag : rowOf i .flag ≤ limits .flag
   pub window : rowOf i .lower ≤ rowOf i .upper
   pub bound : rowOf i .upper ≤ limits .bound
+
+-- Counts of items that are not too large, and make no more values than they are
+pub record Within (c : Counts) : Type 0 where
+  pub items : c .items ≤ limits .items
+  pub timed : c .timed ≤ limits .timed
+  pub lower : c .lower ≤ limits .lower
+  pub depth : c .depth ≤ c .items
 
 -- An item that no test refuses, after items that are counted, and the counts with it
 pub record Fine (c : Counts) (i : Item) (d : Counts) : Type 0 where

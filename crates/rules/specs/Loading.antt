@@ -75,13 +75,6 @@ judgeOf c at i =
     (cond (ltb (c .depth) (row .operands)) (Judged.Refused (Refusal.TooFewOperands at))
     (cond (tooLarge (countedOf c row)) (Judged.Refused (Refusal.RuleTooLarge at)) (Judged.Next (countedOf c row)))))
 
--- Counts of items that are not too large, and make no more values than they are
-pub record Within (c : Counts) : Type 0 where
-  pub items : c .items ≤ limits .items
-  pub timed : c .timed ≤ limits .timed
-  pub lower : c .lower ≤ limits .lower
-  pub depth : c .depth ≤ c .items
-
 -- What reading a rule gives: its items and the formula that they make, or the refusal
 pub data Reading : Type 0 where
   accepted : Items → Formula → Reading

@@ -1,4 +1,4 @@
--- How the walk over a rule stands for the items that it has read.
+-- How the walk over a rule stands for the items that it has read. Contracts of inner functions cite it; `load` says nothing of it.
 use mathlib.Core.Path.{_≡_}
 use mathlib.Core.List.{List, [], _∷_, map}
 use Prim.Native.Nat.{ℕ, max}

@@ -1,7 +1,8 @@
 // Judging an item of a rule: 5, 6, 7, 8 in turn.
 ghost use mathlib.Core.Path.{_≡_};
 ghost use Prim.Native.Nat.{_≤_};
-ghost use Rattle.rules.specs.Loading.{Within, badWindow, tooLarge, countedOf, judgeOf};
+ghost use Rattle.rules.specs.Good.{Within};
+ghost use Rattle.rules.specs.Loading.{badWindow, tooLarge, countedOf, judgeOf};
 use crate::item::Item;
 use crate::item::Row;
 use crate::item::row_of;
@@ -13,7 +14,7 @@ use reading::limits::MOST_TIMED;
 use reading::refusal::Refusal;
 
 // What is counted on the way: items, timed items, the sum of the lower bounds, values that stand and wait for an operator.
-pub struct Counts {
+pub(crate) struct Counts {
     pub items: usize,
     pub timed: usize,
     pub lower: usize,
@@ -21,7 +22,7 @@ pub struct Counts {
 }
 
 // What becomes of an item: the counts with it, or the refusal.
-pub enum Judged {
+pub(crate) enum Judged {
     Next(Counts),
     Refused(Refusal),
 }
@@ -72,10 +73,12 @@ pub(crate) fn judge(counts: Counts, at: usize, item: Item) -> Judged
     if MOST_FLAG < row.flag {
         return Judged::Refused(Refusal::FlagTooLarge(at));
     }
-    if bad_window(row.lower, row.upper) {
+    let bad = bad_window(row.lower, row.upper);
+    let few = counts.depth < row.operands;
+    if bad {
         return Judged::Refused(Refusal::BadWindow(at));
     }
-    if counts.depth < row.operands {
+    if few {
         return Judged::Refused(Refusal::TooFewOperands(at));
     }
     let next = counted(counts, row);

@@ -1,5 +1,5 @@
 // Rules: mission-time temporal logic over clips, and the loading of a rule's bytes.
 pub mod item;
-pub mod judge;
+mod judge;
 pub mod load;
-pub mod walk;
+mod walk;

@@ -12,7 +12,7 @@ use crate::judge::Counts;
 use reading::limits::MOST_ITEMS;
 
 // Where the walk over a rule stands: what it counts, the horizons of the values that wait, and the items read.
-pub struct Walk {
+pub(crate) struct Walk {
     pub counts: Counts,
     pub horizons: [u16; MOST_ITEMS],
     pub codes: [u8; MOST_ITEMS],

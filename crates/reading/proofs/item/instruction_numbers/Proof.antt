@@ -3,35 +3,27 @@ use borrow.Author.Tests.{ne-eqb}
 use Rattle.reading.specs.Items.{look, instructionCodes}
 use Rattle.reading.proofs.item.instruction_numbers.Statement.{statement}
 use Rattle.reading.proofs.item.instruction_numbers.Tie as tie
-use Rattle.reading.proofs.item.instruction_numbers.Reads as reads
-use Rattle.reading.proofs.item.instruction_numbers.Lts as lts
 
--- src/item.rt:53:1
 returns : tie.Need-returns
 unfolding look instructionCodes
 returns c = rw (c .match .keys1)
 
--- src/item.rt:53:1
 returns-2 : tie.Need-returns-2
 unfolding look instructionCodes
 returns-2 c = rw (c .match .keys2)
 
--- src/item.rt:53:1
 returns-3 : tie.Need-returns-3
 unfolding look instructionCodes
 returns-3 c = rw (c .match .keys3)
 
--- src/item.rt:53:1
 returns-4 : tie.Need-returns-4
 unfolding look instructionCodes
 returns-4 c = rw (c .match .keys4)
 
--- src/item.rt:53:1
 returns-5 : tie.Need-returns-5
 unfolding look instructionCodes
 returns-5 c = rw (c .match .keys5)
 
--- src/item.rt:53:1
 returns-6 : tie.Need-returns-6
 unfolding look instructionCodes
 returns-6 c =

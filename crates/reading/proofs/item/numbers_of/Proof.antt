@@ -2,32 +2,22 @@
 use borrow.Author.Needs.{needs}
 use Rattle.reading.proofs.item.numbers_of.Statement.{statement}
 use Rattle.reading.proofs.item.numbers_of.Tie as tie
-use Rattle.reading.proofs.item.numbers_of.Reads as reads
-use Rattle.reading.proofs.item.numbers_of.Lts as lts
-use Rattle.reading.proofs.item.instruction_numbers.Reads as instruction-numbers-reads
-use Rattle.reading.proofs.item.rule_numbers.Reads as rule-numbers-reads
 
--- src/item.rt:71:24
 enum-told : tie.Need-enum-told
 enum-told c = search needs
 
--- src/item.rt:71:24
 rule-numbers-requires : tie.Need-rule-numbers-requires
 rule-numbers-requires c κs = search needs
 
--- src/item.rt:72:24
 enum-told-2 : tie.Need-enum-told-2
 enum-told-2 c = search needs
 
--- src/item.rt:72:24
 instruction-numbers-requires : tie.Need-instruction-numbers-requires
 instruction-numbers-requires c κs = search needs
 
--- src/item.rt:67:1
 returns : tie.Need-returns
 returns c = rw (c .before .enum-told .given .1) (c .rule-numbers .ensures)
 
--- src/item.rt:67:1
 returns-2 : tie.Need-returns-2
 returns-2 c = rw (c .before .enum-told2 .given .1) (c .instruction-numbers .ensures)
 

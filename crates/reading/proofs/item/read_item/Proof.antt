@@ -4,32 +4,22 @@ use mathlib.Core.Path.{_∙_}
 use Rattle.reading.proofs.Items.{ended, unknown, known}
 use Rattle.reading.proofs.item.read_item.Statement.{statement}
 use Rattle.reading.proofs.item.read_item.Tie as tie
-use Rattle.reading.proofs.item.read_item.Reads as reads
-use Rattle.reading.proofs.item.read_item.Lts as lts
-use Rattle.reading.proofs.item.numbers_of.Reads as numbers-of-reads
-use Rattle.reading.proofs.item.read_numbers.Reads as read-numbers-reads
 
--- src/item.rt:112:9
 returns : tie.Need-returns
 returns c = ended _ _ _ (c .if1 .taken)
 
--- src/item.rt:114:16
 shared-slice-read-code : tie.Need-shared-slice-read-code
 shared-slice-read-code c = search needs
 
--- src/item.rt:115:9
 numbers-of-requires : tie.Need-numbers-of-requires
 numbers-of-requires c κs = search needs
 
--- src/item.rt:117:9
 returns-2 : tie.Need-returns-2
 returns-2 c = unknown _ _ _ (search needs) _ (c .before .numbers-of .ensures) (c .if2 .taken)
 
--- src/item.rt:119:5
 read-numbers-requires : tie.Need-read-numbers-requires
 read-numbers-requires c κs = search needs
 
--- src/item.rt:108:1
 returns-3 : tie.Need-returns-3
 returns-3 c = c .read-numbers .ensures ∙ known _ _ _ (search needs) _ (c .before .before .numbers-of .ensures) (c .before .if2 .left)
 

@@ -1,14 +1,10 @@
 -- `read_numbers` meets its contract. The loop's invariant is `Reading`, and each way on is one of its laws. The measure is how many numbers are left.
 use borrow.Author.Needs.{needs}
-use native.Mathlib.Omega.{arith}
 use Prim.Native.Nat.{_-_}
-use mathlib.Core.Path.{_≡_, sym, _∙_}
+use mathlib.Core.Path.{sym, _∙_}
 use Rattle.reading.proofs.Items.{Reading, start, more, cut, long, whole}
 use Rattle.reading.proofs.item.read_numbers.Statement.{statement}
 use Rattle.reading.proofs.item.read_numbers.Tie as tie
-use Rattle.reading.proofs.item.read_numbers.Reads as reads
-use Rattle.reading.proofs.item.read_numbers.Lts as lts
-use Rattle.reading.proofs.number.read_number.Reads as read-number-reads
 
 abbrev Inv-loop : tie.InvT-loop
 Inv-loop bytes at code count numbers₀ next₀ k₀ numbers next k = Reading bytes at code count numbers next k
@@ -16,74 +12,57 @@ Inv-loop bytes at code count numbers₀ next₀ k₀ numbers next k = Reading by
 abbrev μ-loop : tie.MeasureT-loop
 μ-loop bytes at code count numbers₀ next₀ k₀ numbers next k = count - k
 
--- src/item.rt:82:20
 add-next : tie.Need-add-next Inv-loop μ-loop
 add-next c = search needs
 
--- src/item.rt:84:5
 loop-holds : tie.Need-loop-holds Inv-loop μ-loop
 loop-holds c = start _ _ _ _
 
--- src/item.rt:85:15
 read-number-requires : tie.Need-read-number-requires Inv-loop μ-loop
 read-number-requires c κs = search needs
 
--- src/item.rt:87:17
 enum-known-value : tie.Need-enum-known-value Inv-loop μ-loop
 enum-known-value c = search needs
 
--- src/item.rt:90:17
 mul-numbers : tie.Need-mul-numbers Inv-loop μ-loop
 mul-numbers c = search needs
 
--- src/item.rt:90:17
 array-write-numbers : tie.Need-array-write-numbers Inv-loop μ-loop
 array-write-numbers c = search needs
 
--- src/item.rt:92:17
 add-k : tie.Need-add-k Inv-loop μ-loop
 add-k c = search needs
 
--- src/item.rt:84:5
 loop-less : tie.Need-loop-less Inv-loop μ-loop
 loop-less c = search needs
 
--- src/item.rt:84:5
 loop-again : tie.Need-loop-again Inv-loop μ-loop
 loop-again c =
     more _ _ _ _ (c .before .before .before .before .before .loop .inv) (c .before .before .before .before .loop-test .taken) _ _ (c .before .before .before .before .before .before .before .pre .1) (sym (c .before .value .given .1) ∙ c .before .before .before .read-number .ensures)
 
--- src/item.rt:94:51
 enum-told : tie.Need-enum-told Inv-loop μ-loop
 enum-told c = search needs
 
--- src/item.rt:94:30
 returns : tie.Need-returns Inv-loop μ-loop
 returns c =
     cut _ _ _ _ (c .before .before .before .before .loop .inv) (c .before .before .before .loop-test .taken) (sym (c .enum-told .given .1) ∙ c .before .before .read-number .ensures)
 
--- src/item.rt:95:50
 enum-told-2 : tie.Need-enum-told-2 Inv-loop μ-loop
 enum-told-2 c = search needs
 
--- src/item.rt:95:29
 returns-2 : tie.Need-returns-2 Inv-loop μ-loop
 returns-2 c =
     long _ _ _ _ (c .before .before .before .before .loop .inv) (c .before .before .before .loop-test .taken) (sym (c .enum-told2 .given .1) ∙ c .before .before .read-number .ensures)
 
--- src/item.rt:100:16
 array-read-t19 : tie.Need-array-read-t19 Inv-loop μ-loop
 array-read-t19 c = search needs
 
--- src/item.rt:101:17
 array-read-t22 : tie.Need-array-read-t22 Inv-loop μ-loop
 array-read-t22 c = search needs
 
--- src/item.rt:102:16
 array-read-t25 : tie.Need-array-read-t25 Inv-loop μ-loop
 array-read-t25 c = search needs
 
--- src/item.rt:77:1
 returns-3 : tie.Need-returns-3 Inv-loop μ-loop
 returns-3 c = whole _ _ _ _ (c .before .loop .inv) (c .loop-test .left)
 

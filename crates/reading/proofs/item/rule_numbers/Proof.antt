@@ -3,60 +3,47 @@ use borrow.Author.Tests.{ne-eqb}
 use Rattle.reading.specs.Items.{look, ruleCodes}
 use Rattle.reading.proofs.item.rule_numbers.Statement.{statement}
 use Rattle.reading.proofs.item.rule_numbers.Tie as tie
-use Rattle.reading.proofs.item.rule_numbers.Reads as reads
-use Rattle.reading.proofs.item.rule_numbers.Lts as lts
 
--- src/item.rt:34:1
 returns : tie.Need-returns
 unfolding look ruleCodes
 returns c = rw (c .match .keys1)
 
--- src/item.rt:34:1
 returns-2 : tie.Need-returns-2
 unfolding look ruleCodes
 returns-2 c = rw (c .match .keys2)
 
--- src/item.rt:34:1
 returns-3 : tie.Need-returns-3
 unfolding look ruleCodes
 returns-3 c = rw (c .match .keys3)
 
--- src/item.rt:34:1
 returns-4 : tie.Need-returns-4
 unfolding look ruleCodes
 returns-4 c = rw (c .match .keys4)
 
--- src/item.rt:34:1
 returns-5 : tie.Need-returns-5
 unfolding look ruleCodes
 returns-5 c = rw (c .match .keys5)
 
--- src/item.rt:34:1
 returns-6 : tie.Need-returns-6
 unfolding look ruleCodes
 returns-6 c = rw (c .match .keys6)
 
--- src/item.rt:34:1
 returns-7 : tie.Need-returns-7
 unfolding look ruleCodes
 returns-7 c = rw (c .match .keys7)
 
--- src/item.rt:34:1
 returns-8 : tie.Need-returns-8
 unfolding look ruleCodes
 returns-8 c = rw (c .match .keys8)
 
--- src/item.rt:34:1
 returns-9 : tie.Need-returns-9
 unfolding look ruleCodes
 returns-9 c = rw (c .match .keys9)
 
--- src/item.rt:34:1
 returns-10 : tie.Need-returns-10
 unfolding look ruleCodes
 returns-10 c = rw (c .match .keys10)
 
--- src/item.rt:34:1
 returns-11 : tie.Need-returns-11
 unfolding look ruleCodes
 returns-11 c =

@@ -1,71 +1,52 @@
 -- `read_number` meets its contract: the tests on the way to each return are the premises of one law of `numberAt`.
 use borrow.Author.Needs.{needs}
 use borrow.Author.Tests.{eq-eqb, le-leb}
-use native.Mathlib.Omega.{arith}
-use mathlib.Core.Path.{_≡_}
 use mathlib.Core.Bool.{or-true}
 use Rattle.reading.proofs.Numbers.{ended, one, cut, long, two}
 use Rattle.reading.proofs.number.read_number.Statement.{statement}
 use Rattle.reading.proofs.number.read_number.Tie as tie
-use Rattle.reading.proofs.number.read_number.Reads as reads
-use Rattle.reading.proofs.number.read_number.Lts as lts
-use Rattle.reading.proofs.number.wide.Reads as wide-reads
 
--- src/number.rt:30:9
 returns : tie.Need-returns
 returns c = ended _ _ (c .if1 .taken)
 
--- src/number.rt:32:20
 shared-slice-read-wide : tie.Need-shared-slice-read-wide
 shared-slice-read-wide c = search needs
 
--- src/number.rt:32:9
 wide-requires : tie.Need-wide-requires
 wide-requires c κs = search needs
 
--- src/number.rt:33:18
 add-second : tie.Need-add-second
 add-second c = search needs
 
--- src/number.rt:35:9
 returns-2 : tie.Need-returns-2
 returns-2 c = one _ _ _ (search needs) (c .before .wide .ensures .0) (c .if2 .taken)
 
--- src/number.rt:41:9
 returns-3 : tie.Need-returns-3
 returns-3 c = cut _ _ _ (search needs) (c .before .before .wide .ensures .0) (c .before .if2 .left) (c .if3 .taken)
 
--- src/number.rt:43:21
 shared-slice-read-wide-2 : tie.Need-shared-slice-read-wide-2
 shared-slice-read-wide-2 c = search needs
 
--- src/number.rt:43:9
 wide-requires-2 : tie.Need-wide-requires-2
 wide-requires-2 c κs = search needs
 
--- src/number.rt:45:9
 returns-4 : tie.Need-returns-4
 returns-4 c =
     long _ _ _ (search needs) (c .before .before .before .before .before .wide .ensures .0) _ (c .before .before .before .before .if2 .left) (search needs) (c .before .wide2 .ensures .0) (rw (eq-eqb _ _ (c .if4 .taken)))
 
--- src/number.rt:48:9
 returns-5 : tie.Need-returns-5
 returns-5 c =
     long _ _ _ (search needs) (c .before .before .before .before .before .before .wide .ensures .0) _ (c .before .before .before .before .before .if2 .left) (search needs) (c .before .before .wide2 .ensures .0) (rw (le-leb _ _ (c .if5 .taken), or-true))
 
--- src/number.rt:51:30
 mul-t12 : tie.Need-mul-t12
 mul-t12 c = search needs
 
--- src/number.rt:51:16
 add-t13 : tie.Need-add-t13
 add-t13 c = search needs
 
--- src/number.rt:52:15
 add-t6 : tie.Need-add-t6
 add-t6 c = search needs
 
--- src/number.rt:26:1
 returns-6 : tie.Need-returns-6
 returns-6 c =
     two _ _ _ (search needs) (c .before .before .before .before .before .before .wide .ensures .0) _ (c .before .before .before .before .before .if2 .left) (search needs) (c .before .before .wide2 .ensures .0) (c .before .if4 .left) (c .if5 .left)

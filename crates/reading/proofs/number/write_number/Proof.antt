@@ -7,82 +7,61 @@ use Rattle.reading.proofs.Numbers.{bytes-one, bytes-two, bytes-none}
 use Rattle.reading.proofs.Written.{fitting, unfitting, nothing}
 use Rattle.reading.proofs.number.write_number.Statement.{statement}
 use Rattle.reading.proofs.number.write_number.Tie as tie
-use Rattle.reading.proofs.number.write_number.Reads as reads
-use Rattle.reading.proofs.number.write_number.Lts as lts
 
--- src/number.rt:64:13
 returns : tie.Need-returns
 returns c = rw (bytes-one _ (c .before .if1 .taken)) (unfitting _ _ _ (omega arith))
 
--- src/number.rt:66:22
 cast-buffer : tie.Need-cast-buffer
 cast-buffer c = search needs
 
--- src/number.rt:66:9
 slice-write-buffer : tie.Need-slice-write-buffer
 slice-write-buffer c = search needs
 
--- src/number.rt:67:16
 add-result : tie.Need-add-result
 add-result c = search needs
 
--- src/number.rt:67:9
 same-length : tie.Need-same-length
 same-length c = search needs
 
--- src/number.rt:67:9
 returns-2 : tie.Need-returns-2
 returns-2 c = rw (bytes-one _ (c .before .if1 .taken)) (fitting _ _ _ (omega arith))
 
--- src/number.rt:70:9
 returns-3 : tie.Need-returns-3
 returns-3 c = rw (bytes-none _ (c .before .if1 .left) (c .if3 .taken)) (nothing _ _)
 
--- src/number.rt:73:9
 returns-4 : tie.Need-returns-4
 returns-4 c = rw (bytes-two _ (c .before .before .if1 .left) (c .before .if3 .left)) (unfitting _ _ _ (omega arith))
 
--- src/number.rt:75:8
 sub-if5 : tie.Need-sub-if5
 sub-if5 c = search needs
 
--- src/number.rt:76:9
 returns-5 : tie.Need-returns-5
 returns-5 c = rw (bytes-two _ (c .before .before .before .if1 .left) (c .before .before .if3 .left)) (unfitting _ _ _ (omega arith))
 
--- src/number.rt:78:19
 add-buffer : tie.Need-add-buffer
 add-buffer c = search needs
 
--- src/number.rt:78:18
 cast-buffer-2 : tie.Need-cast-buffer-2
 cast-buffer-2 c = search needs
 
--- src/number.rt:78:5
 slice-write-buffer-2 : tie.Need-slice-write-buffer-2
 slice-write-buffer-2 c = search needs
 
--- src/number.rt:79:22
 cast-buffer-3 : tie.Need-cast-buffer-3
 cast-buffer-3 c = search needs
 
--- src/number.rt:79:12
 add-buffer-2 : tie.Need-add-buffer-2
 add-buffer-2 c = search needs
 
--- src/number.rt:79:5
 slice-write-buffer-3 : tie.Need-slice-write-buffer-3
 slice-write-buffer-3 c = simp length-set (omega arith)
 
--- src/number.rt:80:5
 add-result-2 : tie.Need-add-result-2
 add-result-2 c = search needs
 
--- src/number.rt:59:1
 same-length-2 : tie.Need-same-length-2
 same-length-2 c = search needs
 
--- src/number.rt:59:1
 returns-6 : tie.Need-returns-6
 returns-6 c = rw (bytes-two _ (c .before .before .before .if1 .left) (c .before .before .if3 .left), add-one) (fitting _ _ _ (omega arith))
 

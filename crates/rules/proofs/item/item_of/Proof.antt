@@ -3,55 +3,43 @@ use borrow.Author.Tests.{ne-eqb}
 use Rattle.rules.specs.Items.{itemOf}
 use Rattle.rules.proofs.item.item_of.Statement.{statement}
 use Rattle.rules.proofs.item.item_of.Tie as tie
-use Rattle.rules.proofs.item.item_of.Reads as reads
-use Rattle.rules.proofs.item.item_of.Lts as lts
 
--- src/item.rt:62:1
 returns : tie.Need-returns
 unfolding itemOf
 returns c = rw (c .match .keys1)
 
--- src/item.rt:62:1
 returns-2 : tie.Need-returns-2
 unfolding itemOf
 returns-2 c = rw (c .match .keys2)
 
--- src/item.rt:62:1
 returns-3 : tie.Need-returns-3
 unfolding itemOf
 returns-3 c = rw (c .match .keys3)
 
--- src/item.rt:62:1
 returns-4 : tie.Need-returns-4
 unfolding itemOf
 returns-4 c = rw (c .match .keys4)
 
--- src/item.rt:62:1
 returns-5 : tie.Need-returns-5
 unfolding itemOf
 returns-5 c = rw (c .match .keys5)
 
--- src/item.rt:62:1
 returns-6 : tie.Need-returns-6
 unfolding itemOf
 returns-6 c = rw (c .match .keys6)
 
--- src/item.rt:62:1
 returns-7 : tie.Need-returns-7
 unfolding itemOf
 returns-7 c = rw (c .match .keys7)
 
--- src/item.rt:62:1
 returns-8 : tie.Need-returns-8
 unfolding itemOf
 returns-8 c = rw (c .match .keys8)
 
--- src/item.rt:62:1
 returns-9 : tie.Need-returns-9
 unfolding itemOf
 returns-9 c = rw (c .match .keys9)
 
--- src/item.rt:62:1
 returns-10 : tie.Need-returns-10
 unfolding itemOf
 returns-10 c =

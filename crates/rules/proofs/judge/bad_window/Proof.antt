@@ -3,15 +3,11 @@ use borrow.Author.Tests.{lt-ltb, le-ltb}
 use Rattle.rules.specs.Loading.{badWindow}
 use Rattle.rules.proofs.judge.bad_window.Statement.{statement}
 use Rattle.rules.proofs.judge.bad_window.Tie as tie
-use Rattle.rules.proofs.judge.bad_window.Reads as reads
-use Rattle.rules.proofs.judge.bad_window.Lts as lts
 
--- src/load.rt:39:9
 returns : tie.Need-returns
 unfolding badWindow
 returns c = rw (lt-ltb _ _ (c .if1 .taken))
 
--- src/load.rt:35:1
 returns-2 : tie.Need-returns-2
 unfolding badWindow
 returns-2 c = rw (le-ltb _ _ (c .if1 .left))

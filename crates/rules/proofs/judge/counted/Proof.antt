@@ -4,38 +4,28 @@ use Rattle.rules.specs.Loading.{countedOf}
 use borrow.Author.Needs.{needs}
 use Rattle.rules.proofs.judge.counted.Statement.{statement}
 use Rattle.rules.proofs.judge.counted.Tie as tie
-use Rattle.rules.proofs.judge.counted.Reads as reads
-use Rattle.rules.proofs.judge.counted.Lts as lts
 
--- src/load.rt:64:16
 add-t3 : tie.Need-add-t3
 add-t3 c = search needs
 
--- src/load.rt:65:31
 cast-t4 : tie.Need-cast-t4
 cast-t4 c = search needs
 
--- src/load.rt:65:16
 add-t5 : tie.Need-add-t5
 add-t5 c = search needs
 
--- src/load.rt:66:31
 cast-t6 : tie.Need-cast-t6
 cast-t6 c = search needs
 
--- src/load.rt:66:16
 add-t7 : tie.Need-add-t7
 add-t7 c = search needs
 
--- src/load.rt:67:16
 sub-t8 : tie.Need-sub-t8
 sub-t8 c = search needs
 
--- src/load.rt:67:16
 add-t9 : tie.Need-add-t9
 add-t9 c = search needs
 
--- src/load.rt:58:1
 returns : tie.Need-returns
 unfolding countedOf
 returns c = refl

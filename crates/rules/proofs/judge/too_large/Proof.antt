@@ -4,20 +4,15 @@ use Rattle.rules.specs.Loading.{tooLarge}
 use mathlib.Core.Bool.{or-true}
 use Rattle.rules.proofs.judge.too_large.Statement.{statement}
 use Rattle.rules.proofs.judge.too_large.Tie as tie
-use Rattle.rules.proofs.judge.too_large.Reads as reads
-use Rattle.rules.proofs.judge.too_large.Lts as lts
 
--- src/load.rt:49:9
 returns : tie.Need-returns
 unfolding tooLarge
 returns c = rw (lt-ltb _ _ (c .if1 .taken))
 
--- src/load.rt:52:9
 returns-2 : tie.Need-returns-2
 unfolding tooLarge
 returns-2 c = rw (lt-ltb _ _ (c .if2 .taken), or-true)
 
--- src/load.rt:45:1
 returns-3 : tie.Need-returns-3
 unfolding tooLarge
 returns-3 c = rw (le-ltb _ _ (c .before .before .before .if1 .left), le-ltb _ _ (c .before .if2 .left))

@@ -5,32 +5,22 @@ use Rattle.rules.proofs.Walking.{found-not-one, found-one}
 use borrow.Author.Needs.{needs}
 use Rattle.rules.proofs.load.at_end.Statement.{statement}
 use Rattle.rules.proofs.load.at_end.Tie as tie
-use Rattle.rules.proofs.load.at_end.Reads as reads
-use Rattle.rules.proofs.load.at_end.Lts as lts
-use Rattle.rules.proofs.load.rule_with.Reads as rule-with-reads
-use Rattle.rules.proofs.load.refused.Reads as refused-reads
 
--- src/load.rt:212:9
 refused-requires : tie.Need-refused-requires
 refused-requires c κs = search needs
 
--- src/load.rt:212:9
 returns : tie.Need-returns
 returns c = λ is f. c .refused .ensures ∙ ap ruleOf (found-not-one _ is _ f (c .before .if1 .taken))
 
--- src/load.rt:214:19
 element-copy-out-horizon : tie.Need-element-copy-out-horizon
 element-copy-out-horizon c = search needs
 
--- src/load.rt:214:19
 cast-horizon : tie.Need-cast-horizon
 cast-horizon c = search needs
 
--- src/load.rt:216:5
 rule-with-requires : tie.Need-rule-with-requires
 rule-with-requires c κs = search needs
 
--- src/load.rt:207:1
 returns-2 : tie.Need-returns-2
 returns-2 c = λ is f. c .rule-with .ensures ∙ found-one _ is _ f (c .before .before .if1 .left)
 

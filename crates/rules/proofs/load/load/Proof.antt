@@ -4,15 +4,10 @@ use Rattle.rules.specs.Loading.{ruleOf}
 use borrow.Author.Needs.{needs}
 use Rattle.rules.proofs.load.load.Statement.{statement}
 use Rattle.rules.proofs.load.load.Tie as tie
-use Rattle.rules.proofs.load.load.Reads as reads
-use Rattle.rules.proofs.load.load.Lts as lts
-use Rattle.rules.proofs.load.decode.Reads as decode-reads
 
--- src/load.rt:256:9
 decode-requires : tie.Need-decode-requires
 decode-requires c κs = search needs
 
--- src/load.rt:253:1
 returns : tie.Need-returns
 unfolding ruleOf
 returns c = ap (λ r. r .loaded) (c .decode .ensures)

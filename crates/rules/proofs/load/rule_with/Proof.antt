@@ -3,10 +3,7 @@ use mathlib.Core.Path.{refl}
 use Rattle.rules.specs.Walking.{ruleWith}
 use Rattle.rules.proofs.load.rule_with.Statement.{statement}
 use Rattle.rules.proofs.load.rule_with.Tie as tie
-use Rattle.rules.proofs.load.rule_with.Reads as reads
-use Rattle.rules.proofs.load.rule_with.Lts as lts
 
--- src/load.rt:182:5
 returns : tie.Need-returns
 unfolding ruleWith
 returns c = refl

@@ -1,55 +1,42 @@
 -- `largest` meets its contract: the last values stand last in the array, and the larger of two is returned.
-use Prim.Native.Nat.{_≤_}
 use native.Mathlib.Omega.{arith}
-use mathlib.Core.Path.{_≡_, ap}
+use mathlib.Core.Path.{_≡_}
 use Rattle.rules.specs.Walking.{largestOf}
 use Rattle.rules.proofs.Walking.{largest-one, largest-two}
 use borrow.Author.Needs.{needs}
 use Rattle.rules.proofs.walk.largest.Statement.{statement}
 use Rattle.rules.proofs.walk.largest.Tie as tie
-use Rattle.rules.proofs.walk.largest.Reads as reads
-use Rattle.rules.proofs.walk.largest.Lts as lts
 
--- src/load.rt:127:9
 returns : tie.Need-returns
 unfolding largestOf
 returns c = λ hs s e. rw (c .if1 .taken)
 
--- src/load.rt:129:25
 sub-last : tie.Need-sub-last
 sub-last c = search needs
 
--- src/load.rt:129:16
 mul-last : tie.Need-mul-last
 mul-last c = search needs
 
--- src/load.rt:129:16
 array-read-last : tie.Need-array-read-last
 array-read-last c = search needs
 
--- src/load.rt:131:9
 returns-2 : tie.Need-returns-2
 returns-2 c = λ hs s e. rw (c .if2 .taken) (largest-one _ _ (search needs) hs s e)
 
--- src/load.rt:133:27
 sub-before : tie.Need-sub-before
 sub-before c = search needs
 
--- src/load.rt:133:18
 mul-before : tie.Need-mul-before
 mul-before c = search needs
 
--- src/load.rt:133:18
 array-read-before : tie.Need-array-read-before
 array-read-before c = search needs
 
--- src/load.rt:135:9
 returns-3 : tie.Need-returns-3
 returns-3 c = λ hs s e.
     let o : c .before .before .before .args .operands ≡ 2 = omega arith in
     rw o (omega (arith, largest-two _ _ (omega arith) hs s e))
 
--- src/load.rt:122:1
 returns-4 : tie.Need-returns-4
 returns-4 c = λ hs s e.
     let o : c .before .before .before .args .operands ≡ 2 = omega arith in

@@ -2,10 +2,7 @@
 use Rattle.rules.proofs.Walking.{follows-none}
 use Rattle.rules.proofs.walk.Walk.new.Statement.{statement}
 use Rattle.rules.proofs.walk.Walk.new.Tie as tie
-use Rattle.rules.proofs.walk.Walk.new.Reads as reads
-use Rattle.rules.proofs.walk.Walk.new.Lts as lts
 
--- src/load.rt:142:5
 returns : tie.Need-returns
 returns c = follows-none
 
