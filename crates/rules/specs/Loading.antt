@@ -101,7 +101,7 @@ abbrev pub afterJudged : Judged → (Counts → Reading) → Reading
 afterJudged (Judged.Next c) more = more c
 afterJudged (Judged.Refused r) more = refused r
 
--- A rule from a place on, after items that are read. Each turn reads an item, and as an item has a byte at least, the turns suffice that count the bytes
+-- A rule from a place on, after items that are read. Each turn reads an item, and as an item has a byte at least, as many turns as there are bytes suffice
 unfoldable pub readFrom : ℕ → List ℕ → ℕ → Items → Reading
 readFrom zero bytes at is = atEnd bytes is
 readFrom (suc turns) bytes at is =
