@@ -17,6 +17,7 @@ pub record Row : Type 0 where
   pub code : ℕ
   pub numbers : ℕ
 
+-- A row, written short
 abbrev pub row : ℕ → ℕ → Row
 row code numbers = record { code = code; numbers = numbers }
 

@@ -13,7 +13,7 @@ pub enum Number {
     Long,
 }
 
-// The bytes of one group, and the top bit that says that another follows.
+// How many values a group of seven bits has; as a byte, the top bit that says that another group follows.
 const GROUP: u16 = 128;
 
 // A byte as a number.

@@ -1,4 +1,4 @@
--- What is proved of the meaning of `rules`.
+-- Laws and theorems about the definitions, for this crate's functions and those of the crates above.
 pub mod Agreement
 pub mod Horizon
 pub mod Stack

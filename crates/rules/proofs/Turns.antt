@@ -88,31 +88,31 @@ module _ (bytes : List ℕ) (w : Walk) (at : ℕ) (t : Turn bytes w at) where
       let n = one-left (λ h. let z : _≡_ {A = ℕ} 0 1 = cc in omega arith) in
       rw (n .1, ← e) at (t .rest)
 
-  module _ (code i j k next : ℕ) (is : Read.Item code i j k next ≡ itemAt Table.Rule bytes at) where
+  -- an item that is judged and not refused is ready, wherever it stands
+  pub turn-ready : (place : ℕ) (item : Item) (c : Counts) → Judged.Next c ≡ judgeOf (w .counts) place item → Ready w item c (t .items)
+  turn-ready place item c e =
+      record {
+        follows = t .follows;
+        good = t .good;
+        fine = fine (countsOf (t .items)) place item c (sym (rw (t .follows .counts) at e));
+      }
+
+  module _ (code i j k next : ℕ) (is : Read.Item code i j k next ≡ itemAt Table.Rule bytes at) (item : Item) (own : item ≡ itemOf code i i j) where
     left : (m : ℕ) × (t .turns ≡ suc m)
     left = one-left (λ h. let z : _≡_ {A = ℕ} 0 1 = cc in omega arith)
 
-    pub turn-judged : (r : Refusal) → Judged.Refused r ≡ judgeOf (w .counts) at (itemOf code i i j) → refused r ≡ readRule bytes
+    pub turn-judged : (r : Refusal) → Judged.Refused r ≡ judgeOf (w .counts) at item → refused r ≡ readRule bytes
     unfolding readFrom
-    turn-judged r e = rw (left .1, ← is, ← (t .follows .counts), ← e) at (t .rest)
+    turn-judged r e = rw (left .1, ← is, ← own, ← (t .follows .counts), ← e) at (t .rest)
 
-    module _ (c : Counts) (e : Judged.Next c ≡ judgeOf (w .counts) at (itemOf code i i j)) where
-      pub turn-ready : Ready w (itemOf code i i j) c (t .items)
-      turn-ready =
-          record {
-            follows = t .follows;
-            good = t .good;
-            fine = fine (countsOf (t .items)) at (itemOf code i i j) c (sym (rw (t .follows .counts) at e));
-          }
-
-      pub turn-more : (v : Walk) → at < next → Follows v (t .items ++ itemOf code i i j ∷ []) → Turn bytes v next
-      unfolding readFrom
-      turn-more v h f =
-          record {
-            items = t .items ++ itemOf code i i j ∷ [];
-            turns = left .0;
-            enough = omega (arith, t .enough, left .1);
-            follows = f;
-            good = good-more (t .items) (itemOf code i i j) c (t .good) (turn-ready .fine);
-            rest = rw (left .1, ← is, ← (t .follows .counts), ← e) at (t .rest);
-          }
+    pub turn-more : (c : Counts) → Judged.Next c ≡ judgeOf (w .counts) at item → (v : Walk) → at < next → Follows v (t .items ++ item ∷ []) → Turn bytes v next
+    unfolding readFrom
+    turn-more c e v h f =
+        record {
+          items = t .items ++ item ∷ [];
+          turns = left .0;
+          enough = omega (arith, t .enough, left .1);
+          follows = f;
+          good = good-more (t .items) item c (t .good) (turn-ready at item c e .fine);
+          rest = rw (left .1, ← is, ← own, ← (t .follows .counts), ← e) at (t .rest);
+        }

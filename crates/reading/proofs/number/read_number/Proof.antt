@@ -1,5 +1,6 @@
 -- `read_number` meets its contract: the tests on the way to each return are the premises of one law of `numberAt`.
 use borrow.Author.Needs.{needs}
+use native.Mathlib.Omega.{arith}
 use borrow.Author.Tests.{eq-eqb, le-leb}
 use mathlib.Core.Bool.{or-true}
 use Rattle.reading.proofs.Numbers.{ended, one, cut, long, two}
@@ -32,11 +33,11 @@ wide-requires-2 c κs = search needs
 
 returns-4 : tie.Need-returns-4
 returns-4 c =
-    long _ _ _ (search needs) (c .before .before .before .before .before .wide .ensures .0) _ (c .before .before .before .before .if2 .left) (search needs) (c .before .wide2 .ensures .0) (rw (eq-eqb _ _ (c .if4 .taken)))
+    long _ _ _ (search needs) (c .before .before .before .before .before .wide .ensures .0) _ (c .before .before .before .before .if2 .left) (search needs) (c .before .wide2 .ensures .0) (rw (eq-eqb (c .before .wide2 .result) 0 (omega arith)))
 
 returns-5 : tie.Need-returns-5
 returns-5 c =
-    long _ _ _ (search needs) (c .before .before .before .before .before .before .wide .ensures .0) _ (c .before .before .before .before .before .if2 .left) (search needs) (c .before .before .wide2 .ensures .0) (rw (le-leb _ _ (c .if5 .taken), or-true))
+    long _ _ _ (search needs) (c .before .before .before .before .before .before .wide .ensures .0) _ (c .before .before .before .before .before .if2 .left) (search needs) (c .before .before .wide2 .ensures .0) (rw (le-leb 128 (c .before .before .wide2 .result) (omega arith), or-true))
 
 mul-t12 : tie.Need-mul-t12
 mul-t12 c = search needs
@@ -49,7 +50,7 @@ add-t6 c = search needs
 
 returns-6 : tie.Need-returns-6
 returns-6 c =
-    two _ _ _ (search needs) (c .before .before .before .before .before .before .wide .ensures .0) _ (c .before .before .before .before .before .if2 .left) (search needs) (c .before .before .wide2 .ensures .0) (c .before .if4 .left) (c .if5 .left)
+    two _ _ _ (search needs) (c .before .before .before .before .before .before .wide .ensures .0) _ (c .before .before .before .before .before .if2 .left) (search needs) (c .before .before .wide2 .ensures .0) (omega arith) (omega arith)
 
 pub read-number-spec : {M : Type 1} → statement M
 read-number-spec =

@@ -1,4 +1,6 @@
 -- `judge` meets its contract: the tests are the definition's, in its order.
+use native.Mathlib.Omega.{arith}
+use Rattle.reading.specs.Limits.{limits}
 use borrow.Author.Tests.{lt-ltb, le-ltb}
 use mathlib.Core.Path.{_≡_}
 use mathlib.Core.Bool.{cond}
@@ -14,7 +16,7 @@ row-of-requires c κs = search needs
 
 returns : tie.Need-returns
 unfolding judgeOf
-returns c = rw (← (c .before .before .row-of .ensures), lt-ltb _ _ (c .if1 .taken))
+returns c = rw (← (c .before .before .row-of .ensures), lt-ltb (limits .flag) (c .before .before .row-of .result .flag) (omega arith))
 
 bad-window-requires : tie.Need-bad-window-requires
 bad-window-requires c κs = search needs
@@ -22,14 +24,14 @@ bad-window-requires c κs = search needs
 returns-2 : tie.Need-returns-2
 unfolding judgeOf
 returns-2 c =
-    rw (← (c .before .before .before .before .before .before .row-of .ensures), le-ltb _ _ (c .before .before .before .before .if1 .left), ← (c .before .before .before .bad-window .ensures), c .if2 .taken)
+    rw (← (c .before .before .before .before .before .before .row-of .ensures), le-ltb (limits .flag) (c .before .before .before .before .before .before .row-of .result .flag) (omega arith), ← (c .before .before .before .bad-window .ensures), c .if2 .taken)
 
 returns-3 : tie.Need-returns-3
 unfolding judgeOf
 returns-3 c =
     rw (
       ← (c .before .before .before .before .before .before .before .row-of .ensures),
-      le-ltb _ _ (c .before .before .before .before .before .if1 .left),
+      le-ltb (limits .flag) (c .before .before .before .before .before .before .before .row-of .result .flag) (omega arith),
       ← (c .before .before .before .before .bad-window .ensures),
       c .before .if2 .left,
       c .if3 .taken,
@@ -50,7 +52,7 @@ unfolding judgeOf
 settled c =
     rw (
       ← (c .before .before .before .before .before .before .before .before .before .row-of .ensures),
-      le-ltb _ _ (c .before .before .before .before .before .before .before .if1 .left),
+      le-ltb (limits .flag) (c .before .before .before .before .before .before .before .before .before .row-of .result .flag) (omega arith),
       ← (c .before .before .before .before .before .before .bad-window .ensures),
       c .before .before .before .if2 .left,
       c .before .before .if3 .left,

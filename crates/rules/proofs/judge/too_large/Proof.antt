@@ -1,4 +1,6 @@
--- `too_large` meets its contract: the tests are the definition's.
+-- `too_large` meets its contract: what the definition tests follows from what the code tests.
+use native.Mathlib.Omega.{arith}
+use Rattle.reading.specs.Limits.{limits}
 use borrow.Author.Tests.{lt-ltb, le-ltb}
 use Rattle.rules.specs.Loading.{tooLarge}
 use mathlib.Core.Bool.{or-true}
@@ -7,15 +9,17 @@ use Rattle.rules.proofs.judge.too_large.Tie as tie
 
 returns : tie.Need-returns
 unfolding tooLarge
-returns c = rw (lt-ltb _ _ (c .if1 .taken))
+returns c = rw (lt-ltb (limits .items) (c .before .before .args .counts .items) (omega arith))
 
 returns-2 : tie.Need-returns-2
 unfolding tooLarge
-returns-2 c = rw (lt-ltb _ _ (c .if2 .taken), or-true)
+returns-2 c = rw (lt-ltb (limits .timed) (c .before .before .before .before .args .counts .timed) (omega arith), or-true)
 
 returns-3 : tie.Need-returns-3
 unfolding tooLarge
-returns-3 c = rw (le-ltb _ _ (c .before .before .before .if1 .left), le-ltb _ _ (c .before .if2 .left))
+returns-3 c =
+    let n = c .before .before .before .before .before .args .counts in
+    rw (le-ltb (limits .items) (n .items) (omega arith), le-ltb (limits .timed) (n .timed) (omega arith))
 
 pub too-large-spec : {M : Type 1} → statement M
 too-large-spec = tie.close (tie.spec returns returns-2 returns-3)

@@ -1,11 +1,14 @@
 -- `decode` meets its contract. The loop's invariant is `Turn`, and each way out of a turn is one of its laws. The measure is how many bytes are left.
 use borrow.Author.Needs.{needs}
 use native.Mathlib.Omega.{arith}
-use Prim.Native.Nat.{_-_}
+use Prim.Native.Nat.{_-_, _<_}
+use Rattle.reading.specs.Items.{itemAt}
+use Rattle.reading.specs.declared.item.Read.{Read}
+use Rattle.reading.specs.declared.item.Table.{Table}
 use lib.ListN.{length}
-use mathlib.Core.Path.{sym, ap, _∙_}
+use mathlib.Core.Path.{_≡_, sym, ap, _∙_}
 use Rattle.reading.proofs.Bytes.{AllBytes}
-use Rattle.rules.specs.Loading.{ruleOf, judgeOf}
+use Rattle.rules.specs.Loading.{ruleOf}
 use Rattle.rules.proofs.Turns.{Turn, empty-rule, forward, item-inside, turn-first, turn-end, turn-refused, turn-judged, turn-ready, turn-more}
 use Rattle.rules.proofs.load.decode.Statement.{statement}
 use Rattle.rules.proofs.load.decode.Tie as tie
@@ -45,28 +48,32 @@ judge-requires c κs =
 enum-known-counts : tie.Need-enum-known-counts Inv-loop μ-loop
 enum-known-counts c = search needs
 
+-- the item that a turn reads is the definition's, and it leads on
+is-item : (c : tie.After-code Inv-loop μ-loop) →
+    let p = c .code .given .0 in
+    Read.Item (p .0) (p .1 .0) (p .1 .1 .0) (p .1 .1 .1 .0) (p .1 .1 .1 .1 .0)
+    ≡ itemAt Table.Rule (c .before .before .before .before .before .before .before .args .bytes .now) (c .before .before .before .loop .at)
+is-item c = sym (c .code .given .1) ∙ c .before .before .read-item .ensures
+
+read-on : (c : tie.After-code Inv-loop μ-loop) → c .before .before .before .loop .at < c .code .given .0 .1 .1 .1 .1 .0
+read-on c =
+    let small : AllBytes (c .before .before .before .before .before .before .before .args .bytes .now) = λ i. omega (arith, c .before .before .before .before .before .before .shared-slice-known .given i) in
+    forward _ _ _ _ _ _ _ small (is-item c)
+
 with-requires : tie.Need-with-requires Inv-loop μ-loop
 with-requires c κs =
     let t = c .before .before .before .before .before .before .before .before .before .loop .inv in
-    let is = sym (c .before .before .before .before .before .before .code .given .1) ∙ c .before .before .before .before .before .before .before .before .read-item .ensures in
-    let e = sym (c .before .counts .given .1) ∙ c .before .before .before .judge .ensures ∙ ap (judgeOf _ _) (c .before .before .before .before .item-of .ensures) in
-    (t .items, rw (c .before .before .before .before .item-of .ensures) (turn-ready _ _ _ t _ _ _ _ _ is _ e))
+    (t .items, turn-ready _ _ _ t _ _ _ (sym (c .before .counts .given .1) ∙ c .before .before .before .judge .ensures))
 
 loop-less : tie.Need-loop-less Inv-loop μ-loop
-loop-less c =
-    let small : AllBytes (c .before .before .before .before .before .before .before .before .before .before .before .before .before .before .args .bytes .now) = λ i. omega (arith, c .before .before .before .before .before .before .before .before .before .before .before .before .before .shared-slice-known .given i) in
-    let is = sym (c .before .before .before .before .before .before .before .code .given .1) ∙ c .before .before .before .before .before .before .before .before .before .read-item .ensures in
-    omega (arith, forward _ _ _ _ _ _ _ small is, item-inside _ _ _ _ _ _ _ is)
+loop-less c = omega (arith, read-on (c .before .before .before .before .before .before .before), item-inside _ _ _ _ _ _ _ (is-item (c .before .before .before .before .before .before .before)))
 
 loop-again : tie.Need-loop-again Inv-loop μ-loop
 loop-again c =
     let t = c .before .before .before .before .before .before .before .before .before .before .loop .inv in
-    let small : AllBytes (c .before .before .before .before .before .before .before .before .before .before .before .before .before .before .args .bytes .now) = λ i. omega (arith, c .before .before .before .before .before .before .before .before .before .before .before .before .before .shared-slice-known .given i) in
-    let is = sym (c .before .before .before .before .before .before .before .code .given .1) ∙ c .before .before .before .before .before .before .before .before .before .read-item .ensures in
-    let e = sym (c .before .before .counts .given .1) ∙ c .before .before .before .before .judge .ensures ∙ ap (judgeOf _ _) (c .before .before .before .before .before .item-of .ensures) in
-    let item = c .before .before .before .before .before .item-of .ensures in
-    turn-more _ _ _ t _ _ _ _ _ is _ e _ (forward _ _ _ _ _ _ _ small is)
-    (rw item at (c .with .ensures (t .items) (rw item (turn-ready _ _ _ t _ _ _ _ _ is _ e))))
+    let e = sym (c .before .before .counts .given .1) ∙ c .before .before .before .before .judge .ensures in
+    turn-more _ _ _ t _ _ _ _ _ (is-item (c .before .before .before .before .before .before .before)) _ (c .before .before .before .before .before .item-of .ensures) _ e _ (read-on (c .before .before .before .before .before .before .before))
+    (c .with .ensures (t .items) (turn-ready _ _ _ t _ _ _ e))
 
 enum-known-refusal : tie.Need-enum-known-refusal Inv-loop μ-loop
 enum-known-refusal c = search needs
@@ -76,8 +83,9 @@ refused-requires-2 c κs = search needs
 
 returns-2 : tie.Need-returns-2 Inv-loop μ-loop
 returns-2 c =
+    let e = sym (c .before .before .refusal .given .1) ∙ c .before .before .before .before .judge .ensures in
     c .refused2 .ensures
-    ∙ ap ruleOf (turn-judged _ _ _ (c .before .before .before .before .before .before .before .before .before .before .loop .inv) _ _ _ _ _ (sym (c .before .before .before .before .before .before .before .code .given .1) ∙ c .before .before .before .before .before .before .before .before .before .read-item .ensures) _ (sym (c .before .before .refusal .given .1) ∙ c .before .before .before .before .judge .ensures ∙ ap (judgeOf _ _) (c .before .before .before .before .before .item-of .ensures)))
+    ∙ ap ruleOf (turn-judged _ _ _ (c .before .before .before .before .before .before .before .before .before .before .loop .inv) _ _ _ _ _ (is-item (c .before .before .before .before .before .before .before)) _ (c .before .before .before .before .before .item-of .ensures) _ e)
 
 enum-told : tie.Need-enum-told Inv-loop μ-loop
 enum-told c = search needs
