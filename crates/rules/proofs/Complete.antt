@@ -14,7 +14,8 @@ use Rattle.reading.proofs.Bytes.{Stands, Fitting, item-there, parted}
 use Rattle.reading.proofs.Items.{ended}
 use Rattle.rules.specs.Accepted.{IsRule}
 use Rattle.rules.specs.Formula.{Formula, True, False, Flag, Not, And, Or, Until, Release, Eventually, Globally}
-use Rattle.rules.specs.Good.{Each, InRange, Fine, postfix}
+use Rattle.reading.specs.Each.{Each}
+use Rattle.rules.specs.Good.{InRange, Fine, postfix}
 use Rattle.rules.specs.Items.{rowOf, itemOf, apply, bytesOf, ruleBytes}
 use Rattle.rules.specs.Loading.{Items, accepted, atEnd, judgeOf, badWindow, tooLarge, countsOf, countedOf, stackFrom, stackOf, timedIn, lowerIn, readFrom, readRule}
 use Rattle.rules.specs.declared.item.Item.{Item}

@@ -6,7 +6,8 @@ use native.Mathlib.Omega.{arith}
 use lib.ListN.{take, drop}
 use Rattle.reading.specs.Limits.{limits}
 use Rattle.rules.specs.Formula.{Formula, horizon}
-use Rattle.rules.specs.Good.{Each, InRange, Fine, Good, postfixes}
+use Rattle.reading.specs.Each.{Each}
+use Rattle.rules.specs.Good.{InRange, Fine, Good, postfixes}
 use Rattle.rules.specs.Items.{rowOf}
 use Rattle.rules.specs.Loading.{Items, stackFrom, stackOf, timedIn, lowerIn, countsOf, countedOf}
 use Rattle.rules.specs.Walking.{largestOf}

@@ -10,7 +10,8 @@ use native.Mathlib.Omega.{arith}
 use lib.ListN.{length, take, drop, length-take}
 use lib.Seq.{take-nil, getD-take}
 use Rattle.rules.specs.Formula.{Formula, True, False, Flag, Not, And, Or, Until, Release, Eventually, Globally, horizon}
-use Rattle.rules.specs.Meaning.{Clip, Holds, within, reaches, holds}
+use Rattle.reading.specs.Frames.{Clip}
+use Rattle.rules.specs.Meaning.{Holds, within, reaches, holds}
 use Rattle.rules.proofs.Agreement.{agreement}
 
 -- To drop from a part is to take a shorter part of what is dropped

@@ -13,7 +13,8 @@ use Rattle.reading.specs.Numbers.{numberBytes}
 use Rattle.reading.specs.declared.item.Read.{Read}
 use Rattle.reading.specs.declared.item.Table.{Table}
 use Rattle.reading.proofs.Bytes.{AllBytes, Stands, item-back}
-use Rattle.rules.specs.Good.{Each, InRange}
+use Rattle.reading.specs.Each.{Each}
+use Rattle.rules.specs.Good.{InRange}
 use Rattle.rules.specs.Items.{itemOf, rowOf, bytesOf, ruleBytes}
 use Rattle.rules.specs.Loading.{Items, timedIn}
 use Rattle.rules.specs.declared.item.Item.{Item}

@@ -3,10 +3,11 @@ use mathlib.Core.Path.{refl}
 use Rattle.reading.specs.Items.{itemAt, numbersFrom, look, ruleCodes}
 use Rattle.reading.specs.Numbers.{numberAt}
 use Rattle.rules.specs.Formula.{horizon}
-use Rattle.rules.specs.Good.{Each}
+use Rattle.reading.specs.Each.{Each}
 use Rattle.rules.specs.Items.{itemOf, apply}
 use Rattle.rules.specs.Loading.{stackFrom, timedIn, lowerIn, countsOf, countedOf, badWindow, tooLarge, judgeOf, readFrom, readRule}
-use Rattle.rules.specs.Meaning.{holds, reaches, within, hasFlag}
+use Rattle.reading.specs.Frames.{hasFlag}
+use Rattle.rules.specs.Meaning.{holds, reaches, within}
 use Rattle.rules.specs.Samples.{Right, fromEach, samples}
 
 pub samples-right : Each Right samples

@@ -6,7 +6,8 @@ use Prim.Native.Nat.{ℕ, _+_, _*_, _≤_}
 use lib.ListN.{length}
 use Rattle.reading.specs.Limits.{limits}
 use Rattle.rules.specs.Formula.{Formula, horizon}
-use Rattle.rules.specs.Good.{Each, InRange, postfix}
+use Rattle.reading.specs.Each.{Each}
+use Rattle.rules.specs.Good.{InRange, postfix}
 use Rattle.rules.specs.Items.{ruleBytes}
 use Rattle.rules.specs.Loading.{Items, timedIn, lowerIn}
 

@@ -3,17 +3,13 @@
 use mathlib.Core.Path.{_≡_}
 use mathlib.Core.List.{List, [], _∷_, _++_}
 use Prim.Native.Nat.{_*_, _≤_}
+use Rattle.reading.specs.Each.{Each}
 use Rattle.reading.specs.Limits.{limits}
 use Rattle.rules.specs.Formula.{Formula, True, False, Flag, Not, And, Or, Until, Release, Eventually, Globally, horizon}
 use Rattle.rules.specs.Items.{rowOf}
 use Rattle.rules.specs.Loading.{Items, countsOf, countedOf, stackOf, timedIn}
 use Rattle.rules.specs.declared.item.Item.{Item}
 use Rattle.rules.specs.declared.judge.Counts.{Counts}
-
--- Each element of a list has a property
-abbrev pub Each : {A : Type 0} → (A → Type 0) → List A → Type 0
-Each P [] = Unit {0}
-Each P (x ∷ xs) = P x × Each P xs
 
 -- A flag is at most 7, and a window is one: a ≤ b ≤ 255
 pub record InRange (i : Item) : Type 0 where

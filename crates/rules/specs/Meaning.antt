@@ -3,20 +3,12 @@
 -- a ≤ p ≤ b, p < n, has r on the clip from i+p, and l holds on the clip from i+j for each j with a ≤ j < p."
 use mathlib.Core.Path.{_≡_}
 use mathlib.Core.Bool.{Bool, true, false, not, _&&_, _||_}
-use mathlib.Core.List.{List, [], _∷_}
+use mathlib.Core.List.{[], _∷_}
 use mathlib.Core.Logic.{_⊎_}
-use Prim.Native.Nat.{ℕ, zero, suc, _-_, _/_, _%_, _^_, _≤_, _<_}
-use lib.Dec.{eqb}
+use Prim.Native.Nat.{ℕ, zero, suc, _-_, _≤_, _<_}
 use lib.ListN.{length, getD, drop}
+use Rattle.reading.specs.Frames.{Clip, hasFlag}
 use Rattle.rules.specs.Formula.{Formula, True, False, Flag, Not, And, Or, Until, Release, Eventually, Globally}
-
--- A clip
-abbrev pub Clip : Type 0
-Clip = List ℕ
-
--- Whether a frame has flag k: bit k of its byte, value 2 to the power k
-unfoldable pub hasFlag : ℕ → ℕ → Bool
-hasFlag k frame = eqb (frame / 2 ^ k % 2) 1
 
 -- l until[a,b] r on a clip: a place p of the window with r, and l at each place of the window before it
 pub record Reaches (a b : ℕ) (l r : Clip → Type 0) (c : Clip) : Type 0 where

@@ -6,7 +6,8 @@ use Prim.Native.Nat.{ℕ}
 use Rattle.reading.specs.declared.refusal.Refusal.{Refusal}
 use Rattle.rules.specs.Formula.{Formula}
 use Rattle.rules.specs.Loading.{Reading, accepted, refused, readRule, loadedOf}
-use Rattle.rules.specs.Meaning.{Clip, holds}
+use Rattle.reading.specs.Frames.{Clip}
+use Rattle.rules.specs.Meaning.{holds}
 use Rattle.rules.specs.declared.load.Loaded.{Loaded}
 
 -- A row: a rule and its items and horizon, a rule and its refusal, or a rule, a clip and for each frame whether the clip from it satisfies the rule
