@@ -5,3 +5,4 @@ pub mod Written
 pub mod Items
 pub mod Bytes
 pub mod Unique
+pub mod InTurn

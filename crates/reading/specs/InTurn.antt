@@ -47,3 +47,8 @@ inTurn kind (suc turns) bytes at is =
 unfoldable pub walked : {A : Type 0} → Kind A → List ℕ → Walked A
 walked kind [] = refused Refusal.Empty
 walked kind (b ∷ bytes) = inTurn kind (length (b ∷ bytes)) (b ∷ bytes) 0 []
+
+-- The bytes of items, one after the other, where those of each item are given
+unfoldable pub bytesOfAll : {A : Type 0} → (A → List ℕ) → List A → List ℕ
+bytesOfAll own [] = []
+bytesOfAll own (i ∷ is) = own i ++ bytesOfAll own is

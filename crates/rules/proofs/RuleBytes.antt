@@ -1,18 +1,17 @@
--- Items and their bytes: an item that is read stands there by the bytes of the item that it is, whichever of the ten codes it has; and items in range are short.
+-- Items and their bytes: the bytes that are read as an item are those of the item that they make, whichever of the ten codes it has; and items in range are short.
 use mathlib.Core.Path.{_≡_, refl, sym, subst}
-use mathlib.Core.List.{List, [], _∷_, _++_, append-nil, append-assoc}
+use mathlib.Core.List.{[], _∷_, append-nil}
 use mathlib.Core.Logic.{by-cases}
 use Prim.Native.Nat.{ℕ, _+_, _*_, _≤_, _<_}
 use native.Mathlib.Decide.{ℕ-discrete, decLt}
 use native.Mathlib.Omega.{arith}
 use borrow.Author.Tests.{ne-eqb, lt-ltb, le-ltb, lt-leb, le-leb}
 use lib.ListN.{length, length-append}
-use Rattle.reading.specs.Items.{itemAt, itemBytes, numbersOf, noCode, numbersBytes, look, ruleCodes}
+use Rattle.reading.specs.InTurn.{bytesOfAll}
+use Rattle.reading.specs.Items.{itemBytes, numbersOf, noCode, numbersBytes, look, ruleCodes}
 use Rattle.reading.specs.Limits.{limits}
 use Rattle.reading.specs.Numbers.{numberBytes}
-use Rattle.reading.specs.declared.item.Read.{Read}
 use Rattle.reading.specs.declared.item.Table.{Table}
-use Rattle.reading.proofs.Bytes.{AllBytes, Stands, item-back}
 use Rattle.reading.specs.Each.{Each}
 use Rattle.rules.specs.Good.{InRange}
 use Rattle.rules.specs.Items.{itemOf, rowOf, bytesOf, ruleBytes}
@@ -47,12 +46,6 @@ item-bytes =
     (λ i j k. rw append-nil)
     (λ i j k. rw append-nil)
 
--- an item that is read stands there
-pub item-stands : (bytes : List ℕ) (at code i j k next : ℕ) → AllBytes bytes → itemAt Table.Rule bytes at ≡ Read.Item code i j k next → Stands bytes at (bytesOf (itemOf code i i j)) next
-item-stands bytes at code i j k next small e =
-    let (fits, stands) = item-back Table.Rule bytes at code i j k next small e in
-    rw (item-bytes code (fits .known) i j k) at stands
-
 -- a number takes two bytes at most, and one below 128
 number-length : (n : ℕ) → length (numberBytes n) ≤ 2
 unfolding numberBytes
@@ -81,12 +74,6 @@ item-length (Item.Eventually a b) r = simp length-append (omega (arith, number-l
 item-length (Item.Globally a b) r = simp length-append (omega (arith, number-length a, number-length b))
 
 pub rule-length : (is : Items) → Each InRange is → length (ruleBytes is) ≤ 2 * length is + 3 * timedIn is
-unfolding ruleBytes timedIn
+unfolding bytesOfAll timedIn
 rule-length [] e = omega arith
 rule-length (i ∷ is) e = simp length-append (omega (arith, item-length i (e .0), rule-length is (e .1)))
-
--- the bytes of one item more
-pub rule-more : (is : Items) (i : Item) → ruleBytes (is ++ i ∷ []) ≡ ruleBytes is ++ bytesOf i
-unfolding ruleBytes
-rule-more [] i = rw append-nil
-rule-more (j ∷ is) i = rw (rule-more is i, append-assoc)

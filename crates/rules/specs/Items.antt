@@ -4,6 +4,7 @@ use mathlib.Core.Bool.{cond}
 use mathlib.Core.List.{List, [], _∷_, _++_}
 use Prim.Native.Nat.{ℕ}
 use lib.Dec.{eqb}
+use Rattle.reading.specs.InTurn.{bytesOfAll}
 use Rattle.reading.specs.Numbers.{numberBytes}
 use Rattle.rules.specs.Formula.{Formula}
 use Rattle.rules.specs.declared.item.Item.{Item}
@@ -79,6 +80,5 @@ bytesOf (Eventually a b) = 0x32 ∷ (numberBytes a ++ numberBytes b)
 bytesOf (Globally a b) = 0x33 ∷ (numberBytes a ++ numberBytes b)
 
 -- The bytes of a rule: those of its items, in order
-unfoldable pub ruleBytes : List Item → List ℕ
-ruleBytes [] = []
-ruleBytes (i ∷ is) = bytesOf i ++ ruleBytes is
+abbrev pub ruleBytes : List Item → List ℕ
+ruleBytes is = bytesOfAll bytesOf is

@@ -2,15 +2,14 @@
 -- then 5, 6, 7, 8 ..; 9 last, for rules only"; "At most 64 items, 16 of them timed, and the lower bounds a of all timed items add up to at most 256. Bounds are
 -- 0 to 255 with a ≤ b." All that is judged of an item is a function of the items before it.
 use mathlib.Core.Bool.{Bool, cond, _||_}
-use mathlib.Core.List.{List, [], _∷_, _++_, map}
-use Prim.Native.Nat.{ℕ, zero, suc, _+_, _-_}
+use mathlib.Core.List.{List, [], _∷_, map}
+use Prim.Native.Nat.{ℕ, _+_, _-_}
 use lib.Dec.{ltb}
 use lib.ListN.{length}
 use Rattle.reading.specs.Limits.{limits}
-use Rattle.reading.specs.Items.{itemAt}
+use Rattle.reading.specs.InTurn.{Kind, Verdict, Walked, walked}
 use Rattle.reading.specs.Padded.{padded}
 use Rattle.reading.specs.declared.item.Table.{Table}
-use Rattle.reading.specs.declared.item.Read.{Read}
 use Rattle.reading.specs.declared.refusal.Refusal.{Refusal}
 use Rattle.rules.specs.Formula.{Formula, horizon}
 use Rattle.rules.specs.Items.{rowOf, itemOf, apply}
@@ -86,32 +85,28 @@ oneValue n is [] = refused (Refusal.NotOneValue n)
 oneValue n is (f ∷ []) = accepted is f
 oneValue n is (f ∷ g ∷ st) = refused (Refusal.NotOneValue n)
 
--- The end of a rule
-abbrev pub atEnd : List ℕ → Items → Reading
-atEnd bytes is = oneValue (length bytes) is (stackOf is)
+-- The verdict on an item that is judged
+abbrev pub verdictOf : Judged → Verdict
+verdictOf (Judged.Next c) = Verdict.fine
+verdictOf (Judged.Refused r) = Verdict.bad r
 
--- After what stands at a place: the end, a refusal, or more with the item and the place behind it
-abbrev pub afterRead : Read → Reading → (Item → ℕ → Reading) → Reading
-afterRead (Read.Item code i j k next) end more = more (itemOf code i i j) next
-afterRead Read.End end more = end
-afterRead (Read.Refused r) end more = refused r
+-- Rules as a kind of items, judged by what is counted of the items before
+abbrev pub ruleKind : Kind Item
+ruleKind =
+    record {
+      table = Table.Rule;
+      make = λ code i j k. itemOf code i i j;
+      judge = λ is at i. verdictOf (judgeOf (countsOf is) at i);
+    }
 
--- After an item is judged: more, or its refusal
-abbrev pub afterJudged : Judged → (Counts → Reading) → Reading
-afterJudged (Judged.Next c) more = more c
-afterJudged (Judged.Refused r) more = refused r
+-- The end of a rule of so many bytes: its items make one value, or they are refused; a refusal on the way stays
+abbrev pub atEnd : ℕ → Walked Item → Reading
+atEnd n (Walked.items is) = oneValue n is (stackOf is)
+atEnd n (Walked.refused r) = refused r
 
--- A rule from a place on, after items that are read. Each turn reads an item, and as an item has a byte at least, as many turns as there are bytes suffice
-unfoldable pub readFrom : ℕ → List ℕ → ℕ → Items → Reading
-readFrom zero bytes at is = atEnd bytes is
-readFrom (suc turns) bytes at is =
-    afterRead (itemAt Table.Rule bytes at) (atEnd bytes is) λ i next.
-    afterJudged (judgeOf (countsOf is) at i) λ c. readFrom turns bytes next (is ++ i ∷ [])
-
--- A rule's bytes: none is 1
+-- A rule's bytes: its items in turn, then the end
 unfoldable pub readRule : List ℕ → Reading
-readRule [] = refused Refusal.Empty
-readRule (b ∷ bytes) = readFrom (length (b ∷ bytes)) (b ∷ bytes) 0 []
+readRule bytes = atEnd (length bytes) (walked ruleKind bytes)
 
 -- What loading answers: the number of items and the horizon, or the refusal
 abbrev pub loadedOf : Reading → Loaded

@@ -8,8 +8,9 @@ use Rattle.reading.specs.declared.item.Table.{Table}
 use lib.ListN.{length}
 use mathlib.Core.Path.{_≡_, sym, ap, _∙_}
 use Rattle.reading.proofs.Bytes.{AllBytes}
+use Rattle.reading.proofs.InTurn.{forward, item-inside}
 use Rattle.rules.specs.Loading.{ruleOf}
-use Rattle.rules.proofs.Turns.{Turn, empty-rule, forward, item-inside, turn-first, turn-end, turn-refused, turn-judged, turn-ready, turn-more}
+use Rattle.rules.proofs.Turns.{Turn, empty-rule, turn-first, turn-end, turn-refused, turn-judged, turn-ready, turn-more}
 use Rattle.rules.proofs.load.decode.Statement.{statement}
 use Rattle.rules.proofs.load.decode.Tie as tie
 
@@ -58,7 +59,7 @@ is-item c = sym (c .code .given .1) ∙ c .before .before .read-item .ensures
 read-on : (c : tie.After-code Inv-loop μ-loop) → c .before .before .before .loop .at < c .code .given .0 .1 .1 .1 .1 .0
 read-on c =
     let small : AllBytes (c .before .before .before .before .before .before .before .args .bytes .now) = λ i. omega (arith, c .before .before .before .before .before .before .shared-slice-known .given i) in
-    forward _ _ _ _ _ _ _ small (is-item c)
+    forward _ _ _ _ _ _ _ _ small (is-item c)
 
 with-requires : tie.Need-with-requires Inv-loop μ-loop
 with-requires c κs =
@@ -66,7 +67,7 @@ with-requires c κs =
     (t .items, turn-ready _ _ _ t _ _ _ (sym (c .before .counts .given .1) ∙ c .before .before .before .judge .ensures))
 
 loop-less : tie.Need-loop-less Inv-loop μ-loop
-loop-less c = omega (arith, read-on (c .before .before .before .before .before .before .before), item-inside _ _ _ _ _ _ _ (is-item (c .before .before .before .before .before .before .before)))
+loop-less c = omega (arith, read-on (c .before .before .before .before .before .before .before), item-inside _ _ _ _ _ _ _ _ (is-item (c .before .before .before .before .before .before .before)))
 
 loop-again : tie.Need-loop-again Inv-loop μ-loop
 loop-again c =

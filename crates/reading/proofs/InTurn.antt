@@ -1,0 +1,203 @@
+-- The walk over bytes item by item, for any kind of items. `Turn` says where a loop stands: what the walk gives from here on, after these items, is what it gives of
+-- all the bytes; each way out of a turn is a law. And bytes and items determine each other: items that are read stand there by their bytes, one behind the other,
+-- and items whose bytes stand there, each judged fine in its turn, are read.
+use mathlib.Core.Path.{_≡_, refl, sym, ap, _∙_}
+use mathlib.Core.List.{List, [], _∷_, _++_, append-assoc, append-nil}
+use mathlib.Core.Logic.{_⊎_, inl, inr, ⊎-elim, by-cases}
+use Prim.Native.Nat.{ℕ, zero, suc, _+_, _-_, _≤_, _<_}
+use native.Mathlib.Decide.{decLt}
+use native.Mathlib.Omega.{arith}
+use lib.ListN.{length, length-append, drop-of-length-le}
+use Rattle.reading.specs.Each.{Each}
+use Rattle.reading.specs.InTurn.{Verdict, fine, bad, Kind, Walked, items, refused, afterRead, afterJudged, inTurn, walked, bytesOfAll}
+use Rattle.reading.specs.Items.{itemAt, itemBytes, numbersOf, noCode}
+use Rattle.reading.specs.declared.item.Table.{Table}
+use Rattle.reading.specs.declared.item.Read.{Read}
+use Rattle.reading.specs.declared.refusal.Refusal.{Refusal}
+use Rattle.reading.proofs.Bytes.{AllBytes, Stands, Fitting, item-there, item-back, joined, parted}
+use Rattle.reading.proofs.Items.{ended, end-back}
+
+-- what is read before the end lies before it
+before-end : (table : Table) (bytes : List ℕ) (at : ℕ) → (Read.End ≡ itemAt table bytes at → ⊥) → at < length bytes
+before-end table bytes at h =
+    by-cases (decLt at (length bytes)) (λ l. l) (λ l. absurd (h (ended table bytes at (omega arith))))
+
+-- an item takes a byte at least
+pub forward : (table : Table) (bytes : List ℕ) (at code i j k next : ℕ) → AllBytes bytes → Read.Item code i j k next ≡ itemAt table bytes at → at < next
+unfolding itemBytes
+forward table bytes at code i j k next small is =
+    let (fits, stands) = item-back table bytes at code i j k next small (sym is) in
+    omega arith
+
+pub item-inside : (table : Table) (bytes : List ℕ) (at code i j k next : ℕ) → Read.Item code i j k next ≡ itemAt table bytes at → at < length bytes
+item-inside table bytes at code i j k next is =
+    before-end table bytes at (λ h. let z : _≡_ {A = ℕ} 0 1 = cc in omega arith)
+
+-- where the walk stands: at a place, behind these items, with turns enough for the bytes that are left
+pub record Turn {A : Type 0} (kind : Kind A) (bytes : List ℕ) (at : ℕ) (is : List A) : Type 0 where
+  pub turns : ℕ
+  pub enough : length bytes - at ≤ turns
+  pub rest : inTurn kind turns bytes at is ≡ walked kind bytes
+
+module _ {A : Type 0} (kind : Kind A) where
+  -- no byte is refused
+  pub none-refused : (bytes : List ℕ) → length bytes ≡ 0 → refused Refusal.Empty ≡ walked kind bytes
+  unfolding walked
+  none-refused [] h = refl
+  none-refused (b ∷ bytes) h = absurd (omega arith)
+
+  pub turn-first : (bytes : List ℕ) → (length bytes ≡ 0 → ⊥) → Turn kind bytes 0 []
+  unfolding walked
+  turn-first [] h = absurd (h refl)
+  turn-first (b ∷ bytes) h = record { turns = length (b ∷ bytes); enough = omega arith; rest = refl }
+
+  module _ (bytes : List ℕ) (at : ℕ) (is : List A) (t : Turn kind bytes at is) where
+    pub turn-end : Read.End ≡ itemAt (kind .table) bytes at → items is ≡ walked kind bytes
+    unfolding inTurn
+    turn-end e = go (t .turns) (t .rest)
+      where
+        go : (n : ℕ) → inTurn kind n bytes at is ≡ walked kind bytes → items is ≡ walked kind bytes
+        go zero r = r
+        go (suc n) r = rw (← e) at r
+
+    -- a turn is left for an item or a refusal
+    one-left : (Read.End ≡ itemAt (kind .table) bytes at → ⊥) → (m : ℕ) × (t .turns ≡ suc m)
+    one-left h = go (t .turns) (t .enough)
+      where
+        go : (n : ℕ) → length bytes - at ≤ n → (m : ℕ) × (n ≡ suc m)
+        go zero l = absurd (omega (arith, before-end (kind .table) bytes at h))
+        go (suc m) l = (m, refl)
+
+    pub turn-refused : (r : Refusal) → Read.Refused r ≡ itemAt (kind .table) bytes at → refused r ≡ walked kind bytes
+    unfolding inTurn
+    turn-refused r e =
+        let n = one-left (λ h. let z : _≡_ {A = ℕ} 0 1 = cc in omega arith) in
+        rw (n .1, ← e) at (t .rest)
+
+    module _ (code i j k next : ℕ) (read : Read.Item code i j k next ≡ itemAt (kind .table) bytes at) (item : A) (own : item ≡ kind .make code i j k) where
+      left : (m : ℕ) × (t .turns ≡ suc m)
+      left = one-left (λ h. let z : _≡_ {A = ℕ} 0 1 = cc in omega arith)
+
+      pub turn-judged : (r : Refusal) → bad r ≡ kind .judge is at item → refused r ≡ walked kind bytes
+      unfolding inTurn
+      turn-judged r e = rw (left .1, ← read, ← own, ← e) at (t .rest)
+
+      pub turn-more : fine ≡ kind .judge is at item → at < next → Turn kind bytes next (is ++ item ∷ [])
+      unfolding inTurn
+      turn-more e h =
+          record {
+            turns = left .0;
+            enough = omega (arith, t .enough, left .1);
+            rest = rw (left .1, ← read, ← own, ← e) at (t .rest);
+          }
+
+-- a refusal is not items
+differ : {A B : Type 0} {r : Refusal} {is : List A} → refused r ≡ items is → B
+differ e = absurd (let z : _≡_ {A = ℕ} 0 1 = cc in omega arith)
+
+module _ {A : Type 0} {js : List A} where
+  -- where the walk gives items, no turn refuses them
+  read-on : (r : Read) (end : Walked A) (more : ℕ → ℕ → ℕ → ℕ → ℕ → Walked A) → afterRead r end more ≡ items js → ((r ≡ Read.End) × (end ≡ items js)) ⊎ ((code : ℕ) × (i : ℕ) × (j : ℕ) × (k : ℕ) × (next : ℕ) × (r ≡ Read.Item code i j k next) × (more code i j k next ≡ items js))
+  read-on (Read.Item code i j k next) end more e = inr (code, i, j, k, next, refl, e)
+  read-on Read.End end more e = inl (refl, e)
+  read-on (Read.Refused x) end more e = differ e
+
+  judged-on : (v : Verdict) (more : Walked A) → afterJudged v more ≡ items js → (v ≡ fine) × (more ≡ items js)
+  judged-on fine more e = (refl, e)
+  judged-on (bad r) more e = differ e
+
+-- each of these items is judged fine, wherever it stands, after those before it
+abbrev pub Passes : {A : Type 0} → Kind A → List A → List A → Type 0
+Passes kind before [] = Unit {0}
+Passes kind before (i ∷ is) = ((at : ℕ) → kind .judge before at i ≡ fine) × Passes kind (before ++ i ∷ []) is
+
+-- the code byte and the numbers of which an item is made, and whose bytes are its own
+pub record Numbered {A : Type 0} (kind : Kind A) (own : A → List ℕ) (item : A) : Type 0 where
+  pub code : ℕ
+  pub first : ℕ
+  pub second : ℕ
+  pub third : ℕ
+  pub fits : Fitting (kind .table) code first second third
+  pub makes : kind .make code first second third ≡ item
+  pub same : itemBytes (kind .table) code first second third ≡ own item
+
+module _ {A : Type 0} (kind : Kind A) (own : A → List ℕ) where
+  -- the bytes of one item more
+  bytes-more : (is : List A) (i : A) → bytesOfAll own (is ++ i ∷ []) ≡ bytesOfAll own is ++ own i
+  unfolding bytesOfAll
+  bytes-more [] i = rw append-nil
+  bytes-more (j ∷ is) i = rw (bytes-more is i, append-assoc)
+
+  module _ (P : List A → Type 0) (none : P []) (more : (is : List A) (at : ℕ) (i : A) → P is → kind .judge is at i ≡ fine → P (is ++ i ∷ [])) (same : (code i j k : ℕ) → numbersOf (kind .table) code < noCode → itemBytes (kind .table) code i j k ≡ own (kind .make code i j k)) where
+    module _ (bytes : List ℕ) (small : AllBytes bytes) (js : List A) where
+      -- the items so far have the property, and their bytes are those before the place
+      record So-far (at : ℕ) (is : List A) : Type 0 where
+        holds : P is
+        stands : Stands bytes 0 (bytesOfAll own is) at
+
+      at-end : (at : ℕ) (is : List A) → So-far at is → length bytes ≤ at → items is ≡ items js → P js × (bytes ≡ bytesOfAll own js)
+      at-end at is s h e =
+          let i : is ≡ js = cc in
+          let b : bytes ≡ bytesOfAll own is = s .stands .here ∙ rw (drop-of-length-le bytes h, append-nil) in
+          rw i at (let r : P is × (bytes ≡ bytesOfAll own is) = (s .holds, b) in r)
+
+      from : (n at : ℕ) (is : List A) → So-far at is → length bytes - at ≤ n → inTurn kind n bytes at is ≡ items js → P js × (bytes ≡ bytesOfAll own js)
+      unfolding inTurn
+      from zero at is s h e = at-end at is s (omega arith) e
+      from (suc n) at is s h e =
+          ⊎-elim
+          (λ q. at-end at is s (end-back (kind .table) bytes at (q .0)) (q .1))
+          (λ q.
+          let (code, i, j, k, next, read, further) = q in
+          let item = kind .make code i j k in
+          let (judged, rest) = judged-on (kind .judge is at item) _ further in
+          let (fits, stands) = item-back (kind .table) bytes at code i j k next small read in
+          let t : So-far next (is ++ item ∷ []) =
+          record {
+            holds = more is at item (s .holds) judged;
+            stands = rw bytes-more (joined bytes 0 (s .stands) (rw (same code i j k (fits .known)) at stands));
+          } in
+          from n next (is ++ item ∷ []) t (omega (arith, forward (kind .table) bytes at code i j k next small (sym read))) rest)
+          (read-on (itemAt (kind .table) bytes at) _ _ e)
+
+    -- the items that are read: one at least, with a property that each item judged fine keeps, and their bytes are all the bytes
+    pub walked-back : (bytes : List ℕ) (is : List A) → AllBytes bytes → walked kind bytes ≡ items is → P is × (bytes ≡ bytesOfAll own is) × (1 ≤ length is)
+    unfolding bytesOfAll
+    walked-back [] is small e = differ (none-refused kind [] refl ∙ e)
+    walked-back (b ∷ bytes) is small e =
+        let t = turn-first kind (b ∷ bytes) (λ h. omega arith) in
+        let start : Stands (b ∷ bytes) 0 [] 0 = record { here = refl; behind = refl; inside = omega arith } in
+        let (p, all) = from (b ∷ bytes) small is (t .turns) 0 [] (record { holds = none; stands = start }) (t .enough) (t .rest ∙ e) in
+        (p, all, some is all)
+      where
+        some : (js : List A) → b ∷ bytes ≡ bytesOfAll own js → 1 ≤ length js
+        some [] e = absurd (omega (arith, ap length e))
+        some (i ∷ js) e = omega arith
+
+  -- an item has a byte at least, so the turns suffice
+  turns-suffice : (is : List A) → Each (Numbered kind own) is → length is ≤ length (bytesOfAll own is)
+  unfolding bytesOfAll itemBytes
+  turns-suffice [] e = omega arith
+  turns-suffice (i ∷ is) e =
+      simp length-append (omega (arith, ap length (e .0 .same), turns-suffice is (e .1)))
+
+  -- turn by turn the items that stand ahead are read
+  ahead : (bytes : List ℕ) (n at : ℕ) (is js : List A) → length js ≤ n → Stands bytes at (bytesOfAll own js) (length bytes) → Passes kind is js → Each (Numbered kind own) js → inTurn kind n bytes at is ≡ items (is ++ js)
+  unfolding inTurn bytesOfAll
+  ahead bytes zero at is [] h s p e = rw append-nil
+  ahead bytes (suc n) at is [] h s p e = rw (← ended (kind .table) bytes at (omega arith), append-nil)
+  ahead bytes zero at is (i ∷ js) h s p e = absurd (omega arith)
+  ahead bytes (suc n) at is (i ∷ js) h s p e =
+      let m = e .0 in
+      let (here, behind) = parted bytes at (own i) (bytesOfAll own js) s in
+      let read = item-there (kind .table) bytes at (m .code) (m .first) (m .second) (m .third) (at + length (own i)) (m .fits) (rw (m .same) here) in
+      rw (read, m .makes, p .0 at)
+      (rw append-assoc at (ahead bytes n (at + length (own i)) (is ++ i ∷ []) js (omega arith) behind (p .1) (e .1)))
+
+  -- the bytes of items that pass are read as these items
+  pub walked-there : (is : List A) → 1 ≤ length is → Passes kind [] is → Each (Numbered kind own) is → walked kind (bytesOfAll own is) ≡ items is
+  walked-there is some p e =
+      let bytes = bytesOfAll own is in
+      let t = turn-first kind bytes (λ h. omega (arith, turns-suffice is e)) in
+      let s : Stands bytes 0 bytes (length bytes) = record { here = rw (drop-of-length-le bytes {i = length bytes} (omega arith), append-nil); behind = omega arith; inside = omega arith } in
+      sym (t .rest) ∙ ahead bytes (t .turns) 0 [] is (omega (arith, t .enough, turns-suffice is e)) s p e
