@@ -1,0 +1,79 @@
+-- What holds of accepted code, and of the numbers that loading keeps of it: each instruction is fine after those before it, and the numbers give the instructions back. Each turn
+-- of reading adds an instruction that no test refuses.
+use mathlib.Core.Path.{_≡_, refl, sym, ap, _∙_}
+use mathlib.Core.List.{List}
+use Prim.Native.Nat.{ℕ, _*_, _≤_}
+use native.Mathlib.Omega.{arith}
+use lib.ListN.{length, length-append}
+use Rattle.reading.specs.InTurn.{Verdict, fine, bad, Walked, items, refused, bytesOfAll}
+use Rattle.reading.specs.Limits.{limits}
+use Rattle.reading.specs.Padded.{padded}
+use Rattle.reading.proofs.Bytes.{AllBytes}
+use Rattle.reading.proofs.InTurn.{walked-back}
+use Rattle.sequencer.specs.Code.{Instruction, Code, bytesOf}
+use Rattle.sequencer.specs.Loading.{rowOf, judgeOf, countsOf, verdictOf, codeKind, readCode, loadedOf, codeOf, flat, programOf, codeIn, Good}
+use Rattle.sequencer.specs.declared.judge.Counts.{Counts}
+use Rattle.sequencer.specs.declared.judge.Judged.{Judged}
+use Rattle.sequencer.specs.declared.load.Loaded.{Loaded}
+use Rattle.sequencer.specs.declared.load.Program.{Program}
+use Rattle.sequencer.proofs.Counting.{good-none, good-more, good-instructions}
+use Rattle.sequencer.proofs.Flat.{flat-length, code-back}
+use Rattle.sequencer.proofs.Instructions.{instruction-bytes}
+use Rattle.sequencer.proofs.Judging.{passed}
+
+judged-fine : (j : Judged) → verdictOf j ≡ fine → (d : Counts) × (j ≡ Judged.Next d)
+judged-fine (Judged.Next d) e = (d, refl)
+judged-fine (Judged.Refused r) e = absurd (let z : _≡_ {A = ℕ} 0 1 = cc in omega arith)
+
+-- Accepted code: no test refuses an instruction of it, its bytes are those of its instructions, and it has one at least
+pub accepted-code : (bytes : List ℕ) (code : Code) → AllBytes bytes → readCode bytes ≡ items code → Good code × (bytes ≡ bytesOfAll bytesOf code) × (1 ≤ length code)
+accepted-code bytes code small e =
+    walked-back codeKind bytesOf Good good-none
+    (λ is at i g j. let (d, next) = judged-fine (judgeOf (countsOf is) at (rowOf i)) j in good-more is i g (passed is at i d next .0))
+    (λ n i j k known. instruction-bytes n known i j k) bytes code small e
+
+-- What a program that is loaded holds, for those that go through it
+pub record Ready (bytes numbers : List ℕ) (n : ℕ) : Type 0 where
+  pub code : Code
+  pub is : readCode bytes ≡ items code
+  pub own : codeIn numbers n ≡ code
+  pub some : 1 ≤ n
+  pub inside : 4 * n ≤ length numbers
+  pub good : Good (codeIn numbers n)
+
+-- an array with zeros behind is as long as what it holds, at least
+padded-length : (n : ℕ) (xs : List ℕ) → length xs ≤ length (padded n xs)
+unfolding padded
+padded-length n xs = simp length-append (omega arith)
+
+loaded-items : (read : Walked Instruction) (n : ℕ) → Loaded.Accepted n ≡ loadedOf read → (code : Code) × (read ≡ items code) × (n ≡ length code)
+loaded-items (items code) n e = (code, refl, cc)
+loaded-items (refused r) n e = absurd (let z : _≡_ {A = ℕ} 0 1 = cc in omega arith)
+
+pub ready : (bytes : List ℕ) (p : Program) (n : ℕ) → AllBytes bytes → p ≡ programOf (readCode bytes) → Loaded.Accepted n ≡ p .loaded → Ready bytes (p .numbers) n
+unfolding programOf
+ready bytes p n small own e =
+    let (code, is, many) = loaded-items (readCode bytes) n (e ∙ ap (λ q. q .loaded) own) in
+    from code is many (ap (λ q. q .numbers) own ∙ ap (λ read. padded (4 * limits .instructions) (flat (codeOf read))) is)
+  where
+    from : (code : Code) → readCode bytes ≡ items code → n ≡ length code → p .numbers ≡ padded (4 * limits .instructions) (flat code) → Ready bytes (p .numbers) n
+    from code is many array =
+        let (good, own-bytes, some) = accepted-code bytes code small is in
+        let back : codeIn (p .numbers) n ≡ code = rw (array, many) (code-back (4 * limits .instructions) code) in
+        record {
+          code = code;
+          is = is;
+          own = back;
+          some = omega arith;
+          inside = rw (array, many) (omega (arith, padded-length (4 * limits .instructions) (flat code), flat-length code));
+          good = rw back good;
+        }
+
+-- A refused one
+loaded-refused : (read : Walked Instruction) (r : _) → Loaded.Refused r ≡ loadedOf read → read ≡ refused r
+loaded-refused (items code) r e = absurd (let z : _≡_ {A = ℕ} 0 1 = cc in omega arith)
+loaded-refused (refused s) r e = cc
+
+pub not-ready : (bytes : List ℕ) (p : Program) (r : _) → p ≡ programOf (readCode bytes) → Loaded.Refused r ≡ p .loaded → readCode bytes ≡ refused r
+unfolding programOf
+not-ready bytes p r own e = loaded-refused (readCode bytes) r (e ∙ ap (λ q. q .loaded) own)

@@ -1,0 +1,79 @@
+-- What is counted of code. Counts add up instruction by instruction, and the last instruction of code that no test refuses was counted with all before it, so what holds there
+-- of the counts holds of all the code.
+use mathlib.Core.Path.{_≡_, refl}
+use mathlib.Core.List.{[], _∷_, _++_}
+use mathlib.Core.Logic.{by-cases}
+use Prim.Native.Nat.{ℕ, suc, _+_, _≤_, _<_}
+use native.Mathlib.Decide.{decLt}
+use native.Mathlib.Omega.{arith}
+use lib.ListN.{length, getD, take, length-append, List·getD-append}
+use lib.Seq.{take-suc, take-all, take-append-le, take-append-seam, getD-append-seam}
+use Rattle.reading.specs.Each.{Each}
+use Rattle.reading.specs.Limits.{limits}
+use Rattle.sequencer.specs.Code.{Instruction, One, Code}
+use Rattle.sequencer.specs.Loading.{rowOf, reachesIn, distanceIn, countsOf, Within, Fine, Good}
+
+pub reaches-more : (is : Code) (i : Instruction) → reachesIn (is ++ i ∷ []) ≡ reachesIn is + rowOf i .reach
+unfolding reachesIn
+reaches-more [] i = omega arith
+reaches-more (j ∷ is) i = omega (arith, reaches-more is i)
+
+pub distance-more : (is : Code) (i : Instruction) → distanceIn (is ++ i ∷ []) ≡ distanceIn is + rowOf i .distance
+unfolding distanceIn
+distance-more [] i = omega arith
+distance-more (j ∷ is) i = omega (arith, distance-more is i)
+
+within-more : (is : Code) (i : Instruction) → Fine is i → Within (countsOf (is ++ i ∷ []))
+unfolding countsOf
+within-more is i f =
+    record {
+      instructions = rw length-append (f .instructions);
+      reaches = rw reaches-more (f .counters);
+      distance = rw distance-more (f .delays);
+    }
+
+last-within : (is : Code) (n : ℕ) → length is ≡ suc n → Good is → Within (countsOf is)
+last-within is n e g =
+    let h : n < length is = omega arith in
+    let w = within-more (take n is) (getD is n One) (g n h) in
+    rw (← take-suc is n One h, take-all (suc n) is (omega arith)) at w
+
+good-within : (code : Code) → Good code → Within (countsOf code)
+unfolding countsOf reachesIn distanceIn
+good-within [] g = record { instructions = omega arith; reaches = omega arith; distance = omega arith }
+good-within (i ∷ is) g = last-within (i ∷ is) (length is) refl g
+
+pub good-instructions : (code : Code) → Good code → length code ≤ limits .instructions
+unfolding countsOf
+good-instructions code g = good-within code g .instructions
+
+pub good-counters : (code : Code) → Good code → reachesIn code ≤ limits .counters
+unfolding countsOf
+good-counters code g = good-within code g .reaches
+
+pub good-delays : (code : Code) → Good code → distanceIn code ≤ limits .delays
+unfolding countsOf
+good-delays code g = good-within code g .distance
+
+pub good-lines : (code : Code) → Good code → Each (λ i. rowOf i .later ≤ rowOf i .distance) code
+good-lines code g = go code (λ n h. g n h .some)
+  where
+    go : (is : Code) → ((n : ℕ) → n < length is → rowOf (getD is n One) .later ≤ rowOf (getD is n One) .distance) → Each (λ i. rowOf i .later ≤ rowOf i .distance) is
+    go [] f = tt
+    go (i ∷ is) f = (f 0 (omega arith), go is (λ n h. f (suc n) (omega arith)))
+
+pub good-none : Good []
+good-none n h = absurd (omega arith)
+
+pub good-more : (is : Code) (i : Instruction) → Good is → Fine is i → Good (is ++ i ∷ [])
+good-more is i g f n h = by-cases (decLt n (length is)) before last
+  where
+    before : n < length is → Fine (take n (is ++ i ∷ [])) (getD (is ++ i ∷ []) n One)
+    before l =
+        let k : n ≤ length is = omega arith in
+        rw (take-append-le n is (i ∷ []) k, List·getD-append is (i ∷ []) One n l) (g n l)
+
+    last : (n < length is → ⊥) → Fine (take n (is ++ i ∷ [])) (getD (is ++ i ∷ []) n One)
+    last l =
+        let e : n ≡ length is = omega (arith, length-append is (i ∷ [])) in
+        rw (e, take-append-seam, getD-append-seam) f

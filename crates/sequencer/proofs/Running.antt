@@ -1,0 +1,120 @@
+-- The run over a clip, frame by frame from the last. `Runs` says where it stands: the registers are those after the frames read, and the buffer has a verdict for each of them.
+-- One frame more is one step, and by the meaning of registers and bits it leads to the registers and the verdict of the longer clip.
+use mathlib.Core.Path.{_≡_, refl, sym, subst, _∙_}
+use mathlib.Core.Bool.{Bool, true, false}
+use mathlib.Core.List.{List, [], _∷_, _++_, append-assoc}
+use Prim.Native.Nat.{ℕ, suc, _+_, _≤_, _<_}
+use native.Mathlib.Numerals.{add-one}
+use native.Mathlib.Omega.{arith}
+use borrow.Author.Tests.{ltb-false}
+use lib.Dec.{ltb}
+use lib.ListN.{length, getD, take, drop, set, replicate, length-set, length-take, take-append-drop, drop-of-length-le}
+use lib.Seq.{drop-cons, take-suc, set-at}
+use Rattle.reading.specs.InTurn.{Walked}
+use Rattle.reading.specs.Limits.{limits}
+use Rattle.reading.specs.declared.refusal.Refusal.{Refusal}
+use Rattle.sequencer.specs.Bits.{output}
+use Rattle.sequencer.specs.Code.{Code}
+use Rattle.sequencer.specs.Loading.{readCode, codeOf, codeIn, Good}
+use Rattle.sequencer.specs.Registers.{freshRegisters, start, executed, over, registersAfter}
+use Rattle.sequencer.specs.Running.{byteOf, verdicts, badClip, ranOf, bufferAfter, Loads}
+use Rattle.sequencer.specs.Stepping.{Fits, Leaves}
+use Rattle.sequencer.specs.declared.registers.Registers.{Registers}
+use Rattle.sequencer.specs.declared.run.Ran.{Ran}
+use Rattle.sequencer.proofs.Accepted.{Ready}
+use Rattle.sequencer.proofs.After.{after-none, after-registers, after-output}
+use Rattle.sequencer.proofs.Counting.{good-counters, good-delays, good-lines}
+
+-- one element more at the front of those that are written from a place to the end
+set-front : {A : Type 0} (xs own : List A) (p : ℕ) (v : A) → p < length xs → set (take (p + 1) xs ++ over own (drop (p + 1) xs)) p v ≡ take p xs ++ over (v ∷ own) (drop p xs)
+set-front xs own p v h =
+    let t : take (suc p) xs ≡ take p xs ++ getD xs p v ∷ [] = take-suc xs p v h in
+    let d : drop p xs ≡ getD xs p v ∷ drop (suc p) xs = drop-cons xs p v h in
+    rw (add-one p, t, d, append-assoc) (set-at (take p xs) _ _ v p (rw length-take (omega arith)))
+
+module _ (numbers : List ℕ) (n : ℕ) (clip out₀ : List ℕ) (f : Loads numbers n clip out₀) where
+  abbrev code : Code
+  code = codeIn numbers n
+
+  pub record Runs (counters : List ℕ) (delays bits : List Bool) (out : List ℕ) (left : ℕ) : Type 0 where
+    pub inside : left ≤ length clip
+    pub registers : record { counters = counters; delays = delays } ≡ registersAfter code (drop left clip)
+    pub buffer : out ≡ take left out₀ ++ over (verdicts code (drop left clip)) (drop left out₀)
+    pub all : length out ≡ length out₀
+    pub all-counters : length counters ≡ limits .counters
+    pub all-delays : length delays ≡ limits .delays
+    pub all-bits : length bits ≡ limits .instructions
+
+  pub runs-first : Runs (freshRegisters .counters) (freshRegisters .delays) (replicate (limits .instructions) false) out₀ (length clip)
+  unfolding verdicts
+  runs-first =
+      let none : drop (length clip) clip ≡ [] = drop-of-length-le clip {i = length clip} (omega arith) in
+      record {
+        inside = omega arith;
+        registers = rw none (sym (after-none code (good-counters code (f .good)) (good-delays code (f .good))));
+        buffer = rw (none, take-append-drop);
+        all = refl;
+        all-counters = refl;
+        all-delays = refl;
+        all-bits = refl;
+      }
+
+  module _ {counters : List ℕ} {delays bits : List Bool} {out : List ℕ} {left : ℕ} (r : Runs counters delays bits out left) where
+    pub runs-fits : Fits numbers n (record { counters = counters; delays = delays }) bits
+    runs-fits =
+        record {
+          some = f .some;
+          inside = f .inside;
+          good = f .good;
+          counters = omega (arith, r .all-counters);
+          delays = omega (arith, r .all-delays);
+          room = omega (arith, r .all-bits);
+        }
+
+    pub runs-more : (p : ℕ) → p + 1 ≡ left → {counters′ : List ℕ} {delays′ bits′ : List Bool} (b : Bool) → Leaves code (executed (getD clip p 0) code (start (record { counters = counters; delays = delays }))) bits counters′ delays′ bits′ b → length counters′ ≡ limits .counters → length delays′ ≡ limits .delays → length bits′ ≡ limits .instructions → (v : ℕ) → v ≡ byteOf b → Runs counters′ delays′ bits′ (set out p v) p
+    unfolding verdicts
+    runs-more p e {counters′} {delays′} {bits′} b g cs ds bs v own =
+        let x = getD clip p 0 in
+        let c = drop left clip in
+        let in-clip : p < length clip = omega (arith, r .inside) in
+        let d : drop p clip ≡ x ∷ c = rw (← e, add-one p) (drop-cons clip p 0 in-clip) in
+        let lines = good-lines code (f .good) in
+        let h = subst (λ (q : Registers). Leaves code (executed x code (start q)) bits counters′ delays′ bits′ b) (r .registers) g in
+        let regs : record { counters = counters′; delays = delays′ } ≡ registersAfter code (x ∷ c) = rw (h .own-counters, h .own-delays) (after-registers code lines x c) in
+        let bit : b ≡ output code (x ∷ c) = h .own-output ∙ after-output code lines x c in
+        record {
+          inside = omega arith;
+          registers = rw d regs;
+          buffer = rw (d, own, bit, r .buffer) (rw e at (set-front out₀ (verdicts code c) p (byteOf (output code (x ∷ c))) (omega (arith, f .room))));
+          all = length-set out p v ∙ r .all;
+          all-counters = cs;
+          all-delays = ds;
+          all-bits = bs;
+        }
+
+    pub runs-all : left ≡ 0 → out ≡ over (verdicts code clip) out₀
+    runs-all e = rw e at (r .buffer)
+
+-- The run as a whole: what is answered and written, by what its tests tell
+
+module _ (bytes numbers : List ℕ) (n : ℕ) (clip out : List ℕ) (a : Ready bytes numbers n) where
+  pub ran-bad : badClip (length clip) ≡ true → Ran.Refused Refusal.BadClip ≡ ranOf (readCode bytes) clip out
+  ran-bad bad = rw (a .is, bad)
+
+  module _ (fit : badClip (length clip) ≡ false) where
+    pub ran-short : ltb (length out) (length clip) ≡ true → Ran.Refused Refusal.ShortOutput ≡ ranOf (readCode bytes) clip out
+    ran-short short = rw (a .is, fit, short)
+
+    module _ (room : ltb (length out) (length clip) ≡ false) where
+      pub ready-loads : Loads numbers n clip out
+      ready-loads =
+          record { some = a .some; inside = a .inside; good = a .good; room = ltb-false (length out) (length clip) room }
+
+      pub ran-done : Ran.Done ≡ ranOf (readCode bytes) clip out
+      ran-done = rw (a .is, fit, room)
+
+      pub ran-all : (out′ : List ℕ) → out′ ≡ over (verdicts (codeIn numbers n) clip) out → out′ ≡ bufferAfter Ran.Done (codeOf (readCode bytes)) clip out
+      ran-all out′ e = rw (a .is, ← a .own) e
+
+pub ran-refused : (bytes clip out : List ℕ) (r : Refusal) → readCode bytes ≡ Walked.refused r → Ran.Refused r ≡ ranOf (readCode bytes) clip out
+ran-refused bytes clip out r e = rw e

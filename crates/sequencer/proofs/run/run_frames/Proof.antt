@@ -1,0 +1,77 @@
+-- `run_frames` meets its contract. The loop's invariant is `Runs`: one frame more is one step. The measure is how many frames are left.
+use borrow.Author.Needs.{needs}
+use mathlib.Core.Path.{sym}
+use native.Mathlib.Omega.{arith}
+use Rattle.sequencer.specs.Running.{Loads}
+use Rattle.sequencer.proofs.Running.{Runs, runs-first, runs-fits, runs-more, runs-all}
+use Rattle.sequencer.proofs.run.run_frames.Statement.{statement}
+use Rattle.sequencer.proofs.run.run_frames.Tie as tie
+
+abbrev Inv-loop : tie.InvT-loop
+Inv-loop numbers count clip out₀ counters₀ delays₀ bits₀ left₀ out counters delays bits left = (f : Loads numbers count clip out₀) × Runs numbers count clip out₀ f counters delays bits out left
+
+abbrev μ-loop : tie.MeasureT-loop
+μ-loop numbers count clip out₀ counters₀ delays₀ bits₀ left₀ out counters delays bits left = left
+
+loop-holds : tie.Need-loop-holds Inv-loop μ-loop
+loop-holds c = (c .before .before .before .pre, runs-first _ _ _ _ (c .before .before .before .pre))
+
+sub-left : tie.Need-sub-left Inv-loop μ-loop
+sub-left c = omega arith
+
+shared-slice-read-frame-through : tie.Need-shared-slice-read-frame-through Inv-loop μ-loop
+shared-slice-read-frame-through c = omega (arith, c .before .before .loop .inv .1 .inside)
+
+slice-aggregate-frame-through : tie.Need-slice-aggregate-frame-through Inv-loop μ-loop
+slice-aggregate-frame-through c = sym (c .before .before .before .loop .inv .1 .all-counters)
+
+slice-aggregate-frame-through-2 : tie.Need-slice-aggregate-frame-through-2 Inv-loop μ-loop
+slice-aggregate-frame-through-2 c = sym (c .before .before .before .before .loop .inv .1 .all-delays)
+
+slice-aggregate-frame-through-3 : tie.Need-slice-aggregate-frame-through-3 Inv-loop μ-loop
+slice-aggregate-frame-through-3 c = sym (c .before .before .before .before .before .loop .inv .1 .all-bits)
+
+frame-through-requires : tie.Need-frame-through-requires Inv-loop μ-loop
+frame-through-requires c κs = runs-fits _ _ _ _ _ (c .before .before .before .before .before .loop .inv .1)
+
+byte-of-requires : tie.Need-byte-of-requires Inv-loop μ-loop
+byte-of-requires c κs = search needs
+
+slice-write-out : tie.Need-slice-write-out Inv-loop μ-loop
+slice-write-out c = let i = c .before .before .before .before .before .before .before .before .before .before .loop .inv in
+    omega (arith, i .1 .inside, i .1 .all, i .0 .room)
+
+loop-less : tie.Need-loop-less Inv-loop μ-loop
+loop-less c = omega arith
+
+loop-again : tie.Need-loop-again Inv-loop μ-loop
+loop-again c = let i = c .before .before .before .before .before .before .before .before .before .before .loop .inv in (
+  i .0,
+  runs-more _ _ _ _ _ (i .1) _ (omega arith) _ (c .before .before .before .before .frame-through .ensures) (c .before .before .before .counters2 .given) (c .before .before .delays2 .given) (c .before .bits2 .given) _ (c .byte-of .ensures),
+)
+
+same-length : tie.Need-same-length Inv-loop μ-loop
+same-length c = c .before .loop .inv .1 .all
+
+returns : tie.Need-returns Inv-loop μ-loop
+returns c = runs-all _ _ _ _ _ (c .before .loop .inv .1) (omega arith)
+
+pub run-frames-spec : {M : Type 1} → statement M
+run-frames-spec =
+    tie.close
+    (tie.spec
+    Inv-loop
+    μ-loop
+    loop-holds
+    sub-left
+    shared-slice-read-frame-through
+    slice-aggregate-frame-through
+    slice-aggregate-frame-through-2
+    slice-aggregate-frame-through-3
+    frame-through-requires
+    byte-of-requires
+    slice-write-out
+    loop-less
+    loop-again
+    same-length
+    returns)

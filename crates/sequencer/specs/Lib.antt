@@ -1,0 +1,8 @@
+-- What the contracts of `sequencer` cite.
+pub mod Code
+pub mod Bits
+pub mod Registers
+pub mod Loading
+pub mod Stepping
+pub mod Running
+pub mod Samples

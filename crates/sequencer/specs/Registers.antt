@@ -1,0 +1,140 @@
+-- Registers and one step. Document 01: "Registers: sixteen counters and 256 delay bits. Instructions take counters and delay bits in code order, a LATER's bits oldest first;
+-- unused registers stay as they are .. Fresh registers: every counter "none", every delay bit 0." A counter is kept as a number: 0 for "none", else one more than its count.
+use mathlib.Core.Bool.{Bool, true, false, not, _&&_}
+use mathlib.Core.List.{List, [], _∷_, _++_}
+use Prim.Native.Nat.{ℕ, zero, suc, _+_, _-_}
+use lib.ListN.{length, getD, take, drop, set, replicate}
+use Rattle.reading.specs.Frames.{Clip, hasFlag}
+use Rattle.reading.specs.Limits.{limits}
+use Rattle.sequencer.specs.Code.{Instruction, One, Flag, Nand, Reach, Later, Code}
+use Rattle.sequencer.specs.Bits.{Wire, Counter, none, count, next, isOn, counter, later, wire, wireOf}
+use Rattle.sequencer.specs.declared.registers.Registers.{Registers}
+
+-- The counter that a number keeps
+abbrev pub counterOf : ℕ → Counter
+counterOf zero = none
+counterOf (suc n) = count n
+
+-- The number that keeps a counter
+abbrev pub kept : Counter → ℕ
+kept none = 0
+kept (count n) = suc n
+
+-- Fresh registers
+abbrev pub freshRegisters : Registers
+freshRegisters = record { counters = replicate (limits .counters) 0; delays = replicate (limits .delays) false }
+
+-- Where a step stands: the bits written so far, the registers, and how many counters and delay bits are taken
+pub record Working : Type 0 where
+  pub bits : List Bool
+  pub counters : List ℕ
+  pub used : ℕ
+  pub delays : List Bool
+  pub taken : ℕ
+
+-- A step begins: no bit is written, no register is taken
+abbrev pub start : Registers → Working
+start r = record { bits = []; counters = r .counters; used = 0; delays = r .delays; taken = 0 }
+
+-- A bit written by an earlier instruction, by its number
+abbrev pub bit : Working → ℕ → Bool
+bit s i = getD (s .bits) i false
+
+-- One bit more, and no register
+abbrev pub wrote : Working → Bool → Working
+wrote s b = record { bits = s .bits ++ b ∷ []; counters = s .counters; used = s .used; delays = s .delays; taken = s .taken }
+
+-- REACH takes the next counter: what it becomes decides the bit
+abbrev pub reached : Working → Counter → Working
+reached s n =
+    record {
+      bits = s .bits ++ isOn n ∷ [];
+      counters = set (s .counters) (s .used) (kept n);
+      used = s .used + 1;
+      delays = s .delays;
+      taken = s .taken;
+    }
+
+-- Delay bits of which those of one line, d from a place on, move on: the oldest falls out, and the newest comes in last
+unfoldable pub shifted : List Bool → ℕ → ℕ → Bool → List Bool
+shifted delays at d newest = take at delays ++ (drop (at + 1) (take (at + d) delays) ++ newest ∷ drop (at + d) delays)
+
+-- LATER takes the next d delay bits: the oldest is its bit
+abbrev pub delayed : Working → ℕ → Bool → Working
+delayed s d newest =
+    record {
+      bits = s .bits ++ getD (s .delays) (s .taken) false ∷ [];
+      counters = s .counters;
+      used = s .used;
+      delays = shifted (s .delays) (s .taken) d newest;
+      taken = s .taken + d;
+    }
+
+-- One instruction on a frame
+unfoldable pub execute : ℕ → Working → Instruction → Working
+execute frame s One = wrote s true
+execute frame s (Flag k) = wrote s (hasFlag k frame)
+execute frame s (Nand i j) = wrote s (not (bit s i && bit s j))
+execute frame s (Reach i j w) = reached s (next w (bit s i) (bit s j) (counterOf (getD (s .counters) (s .used) 0)))
+execute frame s (Later i d) = delayed s d (bit s i)
+
+-- Instructions in turn
+unfoldable pub executed : ℕ → Code → Working → Working
+executed frame [] s = s
+executed frame (i ∷ is) s = executed frame is (execute frame s i)
+
+-- What a step leaves in the registers
+abbrev pub registersOf : Working → Registers
+registersOf s = record { counters = s .counters; delays = s .delays }
+
+-- The output of a step: the last instruction's bit
+abbrev pub outputOf : Code → Working → Bool
+outputOf code s = bit s (length code - 1)
+
+-- The last d bits of a wire, the oldest first
+unfoldable pub window : ℕ → Wire → Clip → List Bool
+window zero i c = []
+window (suc d) i c = later d i c ∷ window d i c
+
+-- The counter of an instruction after a clip, by the bits of the instructions before it: REACH has one
+abbrev pub ownCounter : List Wire → Instruction → Clip → List ℕ
+ownCounter ws One c = []
+ownCounter ws (Flag k) c = []
+ownCounter ws (Nand i j) c = []
+ownCounter ws (Reach i j w) c = kept (counter w (wire ws i) (wire ws j) c) ∷ []
+ownCounter ws (Later i d) c = []
+
+-- The delay bits of an instruction after a clip: LATER has d
+abbrev pub ownDelays : List Wire → Instruction → Clip → List Bool
+ownDelays ws One c = []
+ownDelays ws (Flag k) c = []
+ownDelays ws (Nand i j) c = []
+ownDelays ws (Reach i j w) c = []
+ownDelays ws (Later i d) c = window d (wire ws i) c
+
+-- The counters of instructions after a clip, in code order
+unfoldable pub countersOf : List Wire → Code → Clip → List ℕ
+countersOf ws [] c = []
+countersOf ws (i ∷ is) c = ownCounter ws i c ++ countersOf (ws ++ wireOf ws i ∷ []) is c
+
+-- The delay bits of instructions after a clip, in code order
+unfoldable pub delaysOf : List Wire → Code → Clip → List Bool
+delaysOf ws [] c = []
+delaysOf ws (i ∷ is) c = ownDelays ws i c ++ delaysOf (ws ++ wireOf ws i ∷ []) is c
+
+-- Registers of which the first hold this, and the rest stay as they are
+abbrev pub over : {A : Type 0} → List A → List A → List A
+over own all = own ++ drop (length own) all
+
+-- What the registers hold after a clip, by what the bits mean
+unfoldable pub registersAfter : Code → Clip → Registers
+registersAfter code c =
+    record {
+      counters = over (countersOf [] code c) (freshRegisters .counters);
+      delays = over (delaysOf [] code c) (freshRegisters .delays);
+    }
+
+-- The registers after a clip, step by step from fresh ones
+unfoldable pub stepsOver : Code → Clip → Registers
+stepsOver code [] = freshRegisters
+stepsOver code (x ∷ c) = registersOf (executed x code (start (stepsOver code c)))

@@ -1,0 +1,92 @@
+// Loading code: one walk over its bytes judges each instruction in turn and keeps the numbers of accepted code.
+ghost use mathlib.Core.Path.{_≡_};
+ghost use Rattle.reading.specs.InTurn.{refused};
+ghost use Rattle.sequencer.specs.Loading.{readCode, loadedOf, programOf};
+use crate::judge::Counts;
+use crate::judge::Judged;
+use crate::judge::judge;
+use crate::judge::row_of;
+use reading::item::Read;
+use reading::item::Table;
+use reading::item::read_item;
+use reading::limits::MOST_INSTRUCTIONS;
+use reading::refusal::Refusal;
+
+// Four numbers stand for an instruction: its code byte, and those behind it.
+pub const NUMBERS: usize = 4 * MOST_INSTRUCTIONS;
+
+// What loading answers: how many instructions, or the refusal.
+pub enum Loaded {
+    Accepted(usize),
+    Refused(Refusal),
+}
+
+// Code that was loaded: the answer and, if it is accepted, four numbers for each instruction in order, with zeros behind.
+pub struct Program {
+    pub loaded: Loaded,
+    pub numbers: [u16; NUMBERS],
+}
+
+// Code that is refused keeps no instruction.
+fn refused(refusal: Refusal) -> Program
+    ensures { λ r. ⌜ r ≡ programOf (refused refusal) ⌝ }
+{
+    Program {
+        loaded: Loaded::Refused(refusal),
+        numbers: [0; NUMBERS],
+    }
+}
+
+// Loads code: its answer and its instructions by their numbers.
+pub fn decode(bytes: &[u8]) -> Program
+    ensures { λ r. ⌜ r ≡ programOf (readCode (now (bytes .entry))) ⌝ }
+{
+    if bytes.len() == 0 {
+        return refused(Refusal::Empty);
+    }
+    let mut numbers = [0u16; NUMBERS];
+    let mut counts = Counts {
+        instructions: 0,
+        reaches: 0,
+        distance: 0,
+    };
+    let mut at = 0;
+    loop {
+        match read_item(Table::Code, bytes, at) {
+            Read::Item {
+                code,
+                first,
+                second,
+                third,
+                next,
+            } => match judge(counts, at, row_of(code, first, second, third)) {
+                Judged::Next(more) => {
+                    let base = 4 * counts.instructions;
+                    numbers[base] = code as u16;
+                    numbers[base + 1] = first;
+                    numbers[base + 2] = second;
+                    numbers[base + 3] = third;
+                    counts = more;
+                    at = next;
+                }
+                Judged::Refused(refusal) => return refused(refusal),
+            },
+            Read::End => {
+                let count = counts.instructions;
+                return Program {
+                    loaded: Loaded::Accepted(count),
+                    numbers,
+                };
+            }
+            Read::Refused(refusal) => return refused(refusal),
+        }
+    }
+}
+
+// Loads code: how many instructions it has, or the refusal.
+pub fn load_code(bytes: &[u8]) -> Loaded
+    ensures { λ r. ⌜ r ≡ loadedOf (readCode (now (bytes .entry))) ⌝ }
+{
+    let program = decode(bytes);
+    program.loaded
+}

@@ -1,0 +1,187 @@
+// Registers, and one frame through code.
+ghost use mathlib.Core.Bool.{not, _&&_};
+ghost use mathlib.Core.Path.{_≡_};
+ghost use Prim.Native.Nat.{_+_, _≤_};
+ghost use lib.ListN.{length};
+ghost use Rattle.reading.specs.Frames.{hasFlag};
+ghost use Rattle.reading.specs.Limits.{limits};
+ghost use Rattle.sequencer.specs.Bits.{next};
+ghost use Rattle.sequencer.specs.Loading.{readCode, codeIn};
+ghost use Rattle.sequencer.specs.Registers.{counterOf, kept, freshRegisters, start, executed, shifted};
+ghost use Rattle.sequencer.specs.Stepping.{Fits, Leaves, steppedOf};
+use crate::load::Loaded;
+use crate::load::decode;
+use reading::limits::COUNTERS;
+use reading::limits::DELAYS;
+use reading::limits::MOST_INSTRUCTIONS;
+use reading::refusal::Refusal;
+
+// Sixteen counters, each 0 for "none" and else one more than its count, and 256 delay bits.
+pub struct Registers {
+    pub counters: [u16; COUNTERS],
+    pub delays: [bool; DELAYS],
+}
+
+// What a step answers: the output bit, or the refusal of the code.
+pub enum Output {
+    Bit(bool),
+    Refused(Refusal),
+}
+
+// What a step hands back: its answer and the registers, unchanged if the code is refused.
+pub struct Stepped {
+    pub output: Output,
+    pub registers: Registers,
+}
+
+// Whether a frame has a flag.
+fn has_flag(k: u16, frame: u8) -> bool
+    requires { ⌜ k ≤ limits .flag ⌝ }
+    ensures { λ r. ⌜ r ≡ hasFlag k frame ⌝ }
+{
+    (frame >> k) % 2 == 1
+}
+
+// 0 if both bits are 1, else 1.
+fn nand(i: bool, j: bool) -> bool
+    ensures { λ r. ⌜ r ≡ not (i && j) ⌝ }
+{
+    if i {
+        return !j;
+    }
+    true
+}
+
+// What REACH makes of its counter.
+fn next_counter(counter: u16, width: u16, i: bool, j: bool) -> u16
+    requires { ⌜ width ≤ limits .width ⌝ }
+    ensures { λ r. ⌜ r ≡ kept (next width i j (counterOf counter)) ⌝ }
+{
+    if j {
+        return 1;
+    }
+    if !i {
+        return 0;
+    }
+    if counter == 0 {
+        return 0;
+    }
+    if width < counter {
+        return 0;
+    }
+    counter + 1
+}
+
+// Moves the line of so many delay bits at a place on by one: the oldest falls out, and the newest comes in last.
+fn shift_in(delays: &mut [bool], at: usize, distance: usize, newest: bool)
+    requires { ⌜ (1 ≤ distance) × (at + distance ≤ length (now delays)) ⌝ }
+    ensures { λ r. ⌜ now (delays .exit) ≡ shifted (now (delays .entry)) at distance newest ⌝ }
+{
+    let last = at + distance - 1;
+    let mut p = at;
+    while p < last {
+        delays[p] = delays[p + 1];
+        p += 1;
+    }
+    delays[last] = newest;
+}
+
+// One frame through code that is loaded: its instructions in turn each write a bit, and take counters and delay bits in code order. Answers
+// the last bit. The bits are working space.
+pub fn frame_through(
+    numbers: &[u16],
+    count: usize,
+    frame: u8,
+    counters: &mut [u16],
+    delays: &mut [bool],
+    bits: &mut [bool],
+) -> bool
+    requires { ⌜ Fits (now numbers) count (record { counters = now counters; delays = now delays }) (now bits) ⌝ }
+    ensures { λ r. ⌜ Leaves (codeIn (now (numbers .entry)) count) (executed frame (codeIn (now (numbers .entry)) count) (start (record { counters = now (counters .entry); delays = now (delays .entry) }))) (now (bits .entry)) (now (counters .exit)) (now (delays .exit)) (now (bits .exit)) r ⌝ }
+{
+    let mut used = 0;
+    let mut taken = 0;
+    let mut n = 0;
+    while n < count {
+        let base = 4 * n;
+        let first = numbers[base + 1];
+        let second = numbers[base + 2];
+        let i = first as usize;
+        let j = second as usize;
+        match numbers[base] {
+            0x01 => {
+                bits[n] = true;
+                n += 1;
+            }
+            0x02 => {
+                bits[n] = has_flag(first, frame);
+                n += 1;
+            }
+            0x03 => {
+                bits[n] = nand(bits[i], bits[j]);
+                n += 1;
+            }
+            0x04 => {
+                let next = next_counter(counters[used], numbers[base + 3], bits[i], bits[j]);
+                counters[used] = next;
+                bits[n] = next != 0;
+                used += 1;
+                n += 1;
+            }
+            _ => {
+                bits[n] = delays[taken];
+                shift_in(&mut *delays, taken, j, bits[i]);
+                taken += j;
+                n += 1;
+            }
+        }
+    }
+    bits[count - 1]
+}
+
+impl Registers {
+    // Every counter "none", every delay bit 0.
+    pub fn fresh() -> Registers
+        ensures { λ r. ⌜ r ≡ freshRegisters ⌝ }
+    {
+        Registers {
+            counters: [0; COUNTERS],
+            delays: [false; DELAYS],
+        }
+    }
+
+    // Takes one frame through code and hands the new registers back with the output bit. Code that is refused leaves the registers as they
+    // are.
+    pub fn step(mut self, code: &[u8], frame: u8) -> Stepped
+        ensures { λ r. ⌜ r ≡ steppedOf (readCode (now (code .entry))) frame self ⌝ }
+    {
+        let program = decode(code);
+        let loaded = program.loaded;
+        match loaded {
+            Loaded::Accepted(count) => {
+                let numbers = program.numbers;
+                let mut counters = self.counters;
+                let mut delays = self.delays;
+                let mut bits = [false; MOST_INSTRUCTIONS];
+                let bit = frame_through(
+                    &numbers,
+                    count,
+                    frame,
+                    &mut counters,
+                    &mut delays,
+                    &mut bits,
+                );
+                self.counters = counters;
+                self.delays = delays;
+                Stepped {
+                    output: Output::Bit(bit),
+                    registers: self,
+                }
+            }
+            Loaded::Refused(refusal) => Stepped {
+                output: Output::Refused(refusal),
+                registers: self,
+            },
+        }
+    }
+}

@@ -1,0 +1,88 @@
+// The run: code over a clip, from the last frame to the first, one byte for each frame.
+ghost use mathlib.Core.Path.{_≡_};
+ghost use Rattle.sequencer.specs.Loading.{readCode, codeOf};
+ghost use Rattle.sequencer.specs.Loading.{codeIn};
+ghost use Rattle.sequencer.specs.Registers.{over};
+ghost use Rattle.sequencer.specs.Running.{badClip, byteOf, verdicts, ranOf, bufferAfter, Loads};
+use crate::load::Loaded;
+use crate::load::decode;
+use crate::registers::frame_through;
+use reading::limits::COUNTERS;
+use reading::limits::DELAYS;
+use reading::limits::MOST_FRAMES;
+use reading::limits::MOST_INSTRUCTIONS;
+use reading::refusal::Refusal;
+
+// What a run answers: the verdicts are written, or the refusal.
+pub enum Ran {
+    Done,
+    Refused(Refusal),
+}
+
+// Whether a clip is none that can be run: it is empty, or over 65,535 frames.
+fn bad_clip(frames: usize) -> bool
+    ensures { λ r. ⌜ r ≡ badClip frames ⌝ }
+{
+    if frames == 0 {
+        return true;
+    }
+    MOST_FRAMES < frames
+}
+
+// A bit as a byte.
+fn byte_of(bit: bool) -> u8
+    ensures { λ r. ⌜ r ≡ byteOf bit ⌝ }
+{
+    if bit {
+        return 1;
+    }
+    0
+}
+
+// Runs code that is loaded over a clip, from the last frame to the first, and writes a verdict for each.
+fn run_frames(numbers: &[u16], count: usize, clip: &[u8], out: &mut [u8])
+    requires { ⌜ Loads (now numbers) count (now clip) (now out) ⌝ }
+    ensures { λ r. ⌜ now (out .exit) ≡ over (verdicts (codeIn (now (numbers .entry)) count) (now (clip .entry))) (now (out .entry)) ⌝ }
+{
+    let mut counters = [0u16; COUNTERS];
+    let mut delays = [false; DELAYS];
+    let mut bits = [false; MOST_INSTRUCTIONS];
+    let mut left = clip.len();
+    while 0 < left {
+        left -= 1;
+        let bit = frame_through(
+            numbers,
+            count,
+            clip[left],
+            &mut counters,
+            &mut delays,
+            &mut bits,
+        );
+        out[left] = byte_of(bit);
+    }
+}
+
+// Runs code over a clip: one byte for each frame, 1 or 0, from the buffer's first byte on; the bytes behind them stay. A refusal, of the code,
+// then 13, then 16, changes nothing.
+pub fn run(code: &[u8], clip: &[u8], out: &mut [u8]) -> Ran
+    ensures { λ r. ⌜ (r ≡ ranOf (readCode (now (code .entry))) (now (clip .entry)) (now (out .entry))) × (now (out .exit) ≡ bufferAfter r (codeOf (readCode (now (code .entry)))) (now (clip .entry)) (now (out .entry))) ⌝ }
+{
+    let program = decode(code);
+    let loaded = program.loaded;
+    match loaded {
+        Loaded::Accepted(count) => {
+            let bad = bad_clip(clip.len());
+            let short = out.len() < clip.len();
+            if bad {
+                return Ran::Refused(Refusal::BadClip);
+            }
+            if short {
+                return Ran::Refused(Refusal::ShortOutput);
+            }
+            let numbers = program.numbers;
+            run_frames(&numbers, count, clip, &mut *out);
+            Ran::Done
+        }
+        Loaded::Refused(refusal) => Ran::Refused(refusal),
+    }
+}
