@@ -1,22 +1,24 @@
 -- What holds of accepted code, and of the numbers that loading keeps of it: each instruction is fine after those before it, and the numbers give the instructions back. Each turn
 -- of reading adds an instruction that no test refuses.
-use mathlib.Core.Path.{_≡_, refl, sym, ap, _∙_}
+use mathlib.Core.Path.{_≡_, refl, ap, _∙_}
 use mathlib.Core.List.{List}
 use Prim.Native.Nat.{ℕ, _*_, _≤_}
 use native.Mathlib.Omega.{arith}
 use lib.ListN.{length, length-append}
-use Rattle.reading.specs.InTurn.{Verdict, fine, bad, Walked, items, refused, bytesOfAll}
+use Rattle.reading.specs.InTurn.{fine, Walked, items, refused, bytesOfAll}
 use Rattle.reading.specs.Limits.{limits}
 use Rattle.reading.specs.Padded.{padded}
 use Rattle.reading.proofs.Bytes.{AllBytes}
 use Rattle.reading.proofs.InTurn.{walked-back}
 use Rattle.sequencer.specs.Code.{Instruction, Code, bytesOf}
-use Rattle.sequencer.specs.Loading.{rowOf, judgeOf, countsOf, verdictOf, codeKind, readCode, loadedOf, codeOf, flat, programOf, codeIn, Good}
+use Rattle.sequencer.specs.Loading.{rowOf, judgeOf, countsOf, verdictOf, codeKind, readCode, loadedOf, codeOf, flat, programOf}
 use Rattle.sequencer.specs.declared.judge.Counts.{Counts}
 use Rattle.sequencer.specs.declared.judge.Judged.{Judged}
 use Rattle.sequencer.specs.declared.load.Loaded.{Loaded}
 use Rattle.sequencer.specs.declared.load.Program.{Program}
-use Rattle.sequencer.proofs.Counting.{good-none, good-more, good-instructions}
+use Rattle.sequencer.specs.Good.{Good}
+use Rattle.sequencer.specs.Programs.{codeIn, Sound}
+use Rattle.sequencer.proofs.Counting.{good-none, good-more}
 use Rattle.sequencer.proofs.Flat.{flat-length, code-back}
 use Rattle.sequencer.proofs.Instructions.{instruction-bytes}
 use Rattle.sequencer.proofs.Judging.{passed}
@@ -37,9 +39,7 @@ pub record Ready (bytes numbers : List ℕ) (n : ℕ) : Type 0 where
   pub code : Code
   pub is : readCode bytes ≡ items code
   pub own : codeIn numbers n ≡ code
-  pub some : 1 ≤ n
-  pub inside : 4 * n ≤ length numbers
-  pub good : Good (codeIn numbers n)
+  pub sound : Sound numbers n
 
 -- an array with zeros behind is as long as what it holds, at least
 padded-length : (n : ℕ) (xs : List ℕ) → length xs ≤ length (padded n xs)
@@ -64,9 +64,7 @@ ready bytes p n small own e =
           code = code;
           is = is;
           own = back;
-          some = omega arith;
-          inside = rw (array, many) (omega (arith, padded-length (4 * limits .instructions) (flat code), flat-length code));
-          good = rw back good;
+          sound = record { some = omega arith; inside = rw (array, many) (omega (arith, padded-length (4 * limits .instructions) (flat code), flat-length code)); good = rw back good };
         }
 
 -- A refused one

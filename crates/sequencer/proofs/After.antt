@@ -15,8 +15,9 @@ use Rattle.reading.specs.Frames.{Clip}
 use Rattle.reading.specs.Limits.{limits}
 use Rattle.sequencer.specs.Bits.{Wire, Counter, none, count, counter, later, wire, wireOf, wiresFrom, output}
 use Rattle.sequencer.specs.Code.{Instruction, One, Flag, Nand, Reach, Later, Code}
-use Rattle.sequencer.specs.Loading.{rowOf, reachesIn, distanceIn, Good}
+use Rattle.sequencer.specs.Loading.{rowOf, reachesIn, distanceIn}
 use Rattle.sequencer.specs.Registers.{counterOf, kept, freshRegisters, start, shifted, execute, executed, registersOf, outputOf, window, ownCounter, ownDelays, countersOf, delaysOf, over, registersAfter, stepsOver}
+use Rattle.sequencer.specs.Good.{Good}
 use Rattle.sequencer.proofs.Counting.{good-counters, good-delays, good-lines}
 
 -- A line of bits

@@ -11,7 +11,8 @@ use lib.Seq.{take-suc, take-all, take-append-le, take-append-seam, getD-append-s
 use Rattle.reading.specs.Each.{Each}
 use Rattle.reading.specs.Limits.{limits}
 use Rattle.sequencer.specs.Code.{Instruction, One, Code}
-use Rattle.sequencer.specs.Loading.{rowOf, reachesIn, distanceIn, countsOf, Within, Fine, Good}
+use Rattle.sequencer.specs.Loading.{rowOf, reachesIn, distanceIn, countsOf}
+use Rattle.sequencer.specs.Good.{Within, Fine, Good}
 
 pub reaches-more : (is : Code) (i : Instruction) → reachesIn (is ++ i ∷ []) ≡ reachesIn is + rowOf i .reach
 unfolding reachesIn

@@ -11,7 +11,9 @@ use lib.Seq.{take-all, take-append-le, getD-append-add, getD-at}
 use Rattle.reading.specs.Padded.{padded}
 use Rattle.reading.proofs.Padded.{set-padded}
 use Rattle.sequencer.specs.Code.{Instruction, One, Flag, Nand, Reach, Later, Code, instructionOf, numbersOf}
-use Rattle.sequencer.specs.Loading.{flat, instructionAt, codeIn, Fine, Good}
+use Rattle.sequencer.specs.Loading.{flat}
+use Rattle.sequencer.specs.Good.{Fine, Good}
+use Rattle.sequencer.specs.Programs.{instructionAt, codeIn}
 
 four : (i : Instruction) → length (numbersOf i) ≡ 4
 unfolding numbersOf

@@ -11,7 +11,7 @@ use Rattle.reading.specs.Items.{numbersOf as numbersIn}
 use Rattle.reading.specs.Padded.{padded}
 use Rattle.reading.specs.declared.item.Table.{Table}
 use Rattle.reading.proofs.Bytes.{Fitting}
-use Rattle.sequencer.specs.Code.{Instruction, One, Flag, Nand, Reach, Later, instructionOf, numbersOf, bytesOf}
+use Rattle.sequencer.specs.Code.{One, Flag, Nand, Reach, Later, instructionOf, numbersOf, bytesOf}
 
 module _ (code i j k : ℕ) where
   pub is-one : code ≡ 0x01 → instructionOf code i j k ≡ One

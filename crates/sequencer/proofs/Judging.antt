@@ -1,6 +1,5 @@
 -- An instruction that is not refused has passed each test: of the choices in turn between a refusal and the rest, none took the refusal.
 use mathlib.Core.Path.{_≡_}
-use mathlib.Core.Bool.{_||_}
 use mathlib.Core.List.{_∷_, [], _++_}
 use Prim.Native.Nat.{ℕ}
 use native.Mathlib.Omega.{arith}
@@ -11,9 +10,10 @@ use Rattle.reading.specs.Limits.{limits}
 use Rattle.reading.specs.declared.refusal.Refusal.{Refusal}
 use Rattle.reading.proofs.Choices.{else-taken, neither}
 use Rattle.sequencer.specs.Code.{Instruction, Code}
-use Rattle.sequencer.specs.Loading.{rowOf, judgeOf, badWidth, tooLarge, countsOf, countedOf, Within, Fine}
+use Rattle.sequencer.specs.Loading.{rowOf, judgeOf, badWidth, tooLarge, countsOf, countedOf}
 use Rattle.sequencer.specs.declared.judge.Counts.{Counts}
 use Rattle.sequencer.specs.declared.judge.Judged.{Judged}
+use Rattle.sequencer.specs.Good.{Within, Fine}
 use Rattle.sequencer.proofs.Counting.{reaches-more, distance-more}
 
 apart : {r : Refusal} {d : Counts} → Judged.Refused r ≡ Judged.Next d → ⊥

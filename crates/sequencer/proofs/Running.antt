@@ -15,12 +15,12 @@ use Rattle.reading.specs.Limits.{limits}
 use Rattle.reading.specs.declared.refusal.Refusal.{Refusal}
 use Rattle.sequencer.specs.Bits.{output}
 use Rattle.sequencer.specs.Code.{Code}
-use Rattle.sequencer.specs.Loading.{readCode, codeOf, codeIn, Good}
+use Rattle.sequencer.specs.Loading.{readCode, codeOf}
 use Rattle.sequencer.specs.Registers.{freshRegisters, start, executed, over, registersAfter}
-use Rattle.sequencer.specs.Running.{byteOf, verdicts, badClip, ranOf, bufferAfter, Loads}
-use Rattle.sequencer.specs.Stepping.{Fits, Leaves}
+use Rattle.sequencer.specs.Running.{byteOf, verdicts, badClip, ranOf, bufferAfter}
 use Rattle.sequencer.specs.declared.registers.Registers.{Registers}
 use Rattle.sequencer.specs.declared.run.Ran.{Ran}
+use Rattle.sequencer.specs.Programs.{codeIn, Fits, Leaves, Loads}
 use Rattle.sequencer.proofs.Accepted.{Ready}
 use Rattle.sequencer.proofs.After.{after-none, after-registers, after-output}
 use Rattle.sequencer.proofs.Counting.{good-counters, good-delays, good-lines}
@@ -36,8 +36,9 @@ module _ (numbers : List ℕ) (n : ℕ) (clip out₀ : List ℕ) (f : Loads numb
   abbrev code : Code
   code = codeIn numbers n
 
-  pub record Runs (counters : List ℕ) (delays bits : List Bool) (out : List ℕ) (left : ℕ) : Type 0 where
-    pub inside : left ≤ length clip
+  pub record Runs (counters : List ℕ) (delays bits : List Bool) (out : List ℕ) (read : ℕ) : Type 0 where
+    pub left : ℕ
+    pub so-far : left + read ≡ length clip
     pub registers : record { counters = counters; delays = delays } ≡ registersAfter code (drop left clip)
     pub buffer : out ≡ take left out₀ ++ over (verdicts code (drop left clip)) (drop left out₀)
     pub all : length out ≡ length out₀
@@ -45,13 +46,14 @@ module _ (numbers : List ℕ) (n : ℕ) (clip out₀ : List ℕ) (f : Loads numb
     pub all-delays : length delays ≡ limits .delays
     pub all-bits : length bits ≡ limits .instructions
 
-  pub runs-first : Runs (freshRegisters .counters) (freshRegisters .delays) (replicate (limits .instructions) false) out₀ (length clip)
+  pub runs-first : Runs (freshRegisters .counters) (freshRegisters .delays) (replicate (limits .instructions) false) out₀ 0
   unfolding verdicts
   runs-first =
       let none : drop (length clip) clip ≡ [] = drop-of-length-le clip {i = length clip} (omega arith) in
       record {
-        inside = omega arith;
-        registers = rw none (sym (after-none code (good-counters code (f .good)) (good-delays code (f .good))));
+        left = length clip;
+        so-far = omega arith;
+        registers = rw none (sym (after-none code (good-counters code (f .sound .good)) (good-delays code (f .sound .good))));
         buffer = rw (none, take-append-drop);
         all = refl;
         all-counters = refl;
@@ -59,41 +61,42 @@ module _ (numbers : List ℕ) (n : ℕ) (clip out₀ : List ℕ) (f : Loads numb
         all-bits = refl;
       }
 
-  module _ {counters : List ℕ} {delays bits : List Bool} {out : List ℕ} {left : ℕ} (r : Runs counters delays bits out left) where
+  module _ {counters : List ℕ} {delays bits : List Bool} {out : List ℕ} {read : ℕ} (r : Runs counters delays bits out read) where
     pub runs-fits : Fits numbers n (record { counters = counters; delays = delays }) bits
     runs-fits =
         record {
-          some = f .some;
-          inside = f .inside;
-          good = f .good;
+          sound = f .sound;
           counters = omega (arith, r .all-counters);
           delays = omega (arith, r .all-delays);
           room = omega (arith, r .all-bits);
         }
 
-    pub runs-more : (p : ℕ) → p + 1 ≡ left → {counters′ : List ℕ} {delays′ bits′ : List Bool} (b : Bool) → Leaves code (executed (getD clip p 0) code (start (record { counters = counters; delays = delays }))) bits counters′ delays′ bits′ b → length counters′ ≡ limits .counters → length delays′ ≡ limits .delays → length bits′ ≡ limits .instructions → (v : ℕ) → v ≡ byteOf b → Runs counters′ delays′ bits′ (set out p v) p
+    pub runs-more : (p : ℕ) → p + 1 + read ≡ length clip → {counters′ : List ℕ} {delays′ bits′ : List Bool} (b : Bool) → Leaves code (executed (getD clip p 0) code (start (record { counters = counters; delays = delays }))) bits counters′ delays′ bits′ b → length counters′ ≡ limits .counters → length delays′ ≡ limits .delays → length bits′ ≡ limits .instructions → (v : ℕ) → v ≡ byteOf b → Runs counters′ delays′ bits′ (set out p v) (read + 1)
     unfolding verdicts
     runs-more p e {counters′} {delays′} {bits′} b g cs ds bs v own =
         let x = getD clip p 0 in
-        let c = drop left clip in
-        let in-clip : p < length clip = omega (arith, r .inside) in
-        let d : drop p clip ≡ x ∷ c = rw (← e, add-one p) (drop-cons clip p 0 in-clip) in
-        let lines = good-lines code (f .good) in
+        let c = drop (r .left) clip in
+        let before : p + 1 ≡ r .left = omega (arith, r .so-far) in
+        let d : drop p clip ≡ x ∷ c = rw (← before, add-one p) (drop-cons clip p 0 (omega arith)) in
+        let lines = good-lines code (f .sound .good) in
         let h = subst (λ (q : Registers). Leaves code (executed x code (start q)) bits counters′ delays′ bits′ b) (r .registers) g in
         let regs : record { counters = counters′; delays = delays′ } ≡ registersAfter code (x ∷ c) = rw (h .own-counters, h .own-delays) (after-registers code lines x c) in
         let bit : b ≡ output code (x ∷ c) = h .own-output ∙ after-output code lines x c in
         record {
-          inside = omega arith;
+          left = p;
+          so-far = omega arith;
           registers = rw d regs;
-          buffer = rw (d, own, bit, r .buffer) (rw e at (set-front out₀ (verdicts code c) p (byteOf (output code (x ∷ c))) (omega (arith, f .room))));
+          buffer = rw (d, own, bit, r .buffer) (rw before at (set-front out₀ (verdicts code c) p (byteOf (output code (x ∷ c))) (omega (arith, f .room))));
           all = length-set out p v ∙ r .all;
           all-counters = cs;
           all-delays = ds;
           all-bits = bs;
         }
 
-    pub runs-all : left ≡ 0 → out ≡ over (verdicts code clip) out₀
-    runs-all e = rw e at (r .buffer)
+    pub runs-all : length clip ≤ read → out ≡ over (verdicts code clip) out₀
+    runs-all h =
+        let all : r .left ≡ 0 = omega (arith, r .so-far) in
+        rw all at (r .buffer)
 
 -- The run as a whole: what is answered and written, by what its tests tell
 
@@ -108,7 +111,7 @@ module _ (bytes numbers : List ℕ) (n : ℕ) (clip out : List ℕ) (a : Ready b
     module _ (room : ltb (length out) (length clip) ≡ false) where
       pub ready-loads : Loads numbers n clip out
       ready-loads =
-          record { some = a .some; inside = a .inside; good = a .good; room = ltb-false (length out) (length clip) room }
+          record { sound = a .sound; room = ltb-false (length out) (length clip) room }
 
       pub ran-done : Ran.Done ≡ ranOf (readCode bytes) clip out
       ran-done = rw (a .is, fit, room)

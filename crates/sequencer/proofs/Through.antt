@@ -1,8 +1,8 @@
 -- One frame through code that is loaded, instruction by instruction. `Walk` says where the loop stands: its arrays and its two counts are those of a step that has executed the
 -- instructions before it, and behind the bits written stands what stood there. Each instruction leads on by what `execute` makes of it.
-use mathlib.Core.Path.{_≡_, refl, sym, ap, _∙_}
+use mathlib.Core.Path.{_≡_, refl, ap, _∙_}
 use mathlib.Core.Bool.{Bool, true, false, not, _&&_}
-use mathlib.Core.List.{List, [], _∷_, _++_, append-assoc, append-nil}
+use mathlib.Core.List.{List, [], _∷_, _++_, append-assoc}
 use Prim.Native.Nat.{ℕ, suc, _+_, _-_, _*_, _≤_, _<_}
 use native.Mathlib.Numerals.{add-one}
 use native.Mathlib.Omega.{arith}
@@ -14,10 +14,10 @@ use Rattle.reading.specs.Frames.{hasFlag}
 use Rattle.reading.specs.Limits.{limits}
 use Rattle.sequencer.specs.Bits.{Counter, none, count, next, isOn}
 use Rattle.sequencer.specs.Code.{Instruction, One, Flag, Nand, Reach, Later, Code}
-use Rattle.sequencer.specs.Loading.{rowOf, reachesIn, distanceIn, instructionAt, codeIn, Fine}
-use Rattle.sequencer.specs.Registers.{Working, start, bit, wrote, reached, delayed, shifted, execute, executed, counterOf, kept, over}
-use Rattle.sequencer.specs.Stepping.{Fits, Leaves}
+use Rattle.sequencer.specs.Loading.{rowOf, reachesIn, distanceIn}
+use Rattle.sequencer.specs.Registers.{Working, start, bit, shifted, execute, executed, counterOf, kept, over}
 use Rattle.sequencer.specs.declared.registers.Registers.{Registers}
+use Rattle.sequencer.specs.Programs.{instructionAt, codeIn, Fits, Leaves}
 use Rattle.sequencer.proofs.Counting.{reaches-more, distance-more}
 use Rattle.sequencer.proofs.Flat.{code-length, fine-at}
 use Rattle.sequencer.proofs.Instructions.{is-one, is-flag, is-nand, is-reach, is-later}
@@ -46,9 +46,6 @@ module _ (numbers : List ℕ) (n : ℕ) where
   at-later a b c d = is-later _ _ _ _ a b c d
 
 -- One element more, in front of what stays
-
-over-none : {A : Type 0} (all : List A) → all ≡ over [] all
-over-none all = refl
 
 over-length : {A : Type 0} (own all : List A) → length own ≤ length all → length (over own all) ≡ length all
 over-length own all h = simp (length-append, length-drop) (omega arith)
@@ -134,7 +131,7 @@ module _ (numbers : List ℕ) (frame : ℕ) (r : Registers) (bits₀ : List Bool
 
       pub here : Here
       here =
-          let fine = rw e at (fine-at numbers k n (f .good) h) in
+          let fine = rw e at (fine-at numbers k n (f .sound .good) h) in
           record {
             flag = fine .flag;
             earlier = omega (arith, fine .earlier, code-length numbers n);
@@ -196,13 +193,13 @@ module _ (numbers : List ℕ) (frame : ℕ) (r : Registers) (bits₀ : List Bool
             let on : not (eqb m 0) ≡ isOn q = rw is (is-on q) in
             more k f h (Reach i j width) e (not (eqb m 0)) (used + 1) taken (set counters used m) delays (rw (on, is, ← w .own-counters, ← w .own-used, ← w .own-delays, ← w .own-taken)) (omega arith) (omega arith) (length-set counters used m) refl
 
-        pub walk-later : instructionAt numbers n ≡ Later i j → let oldest = getD delays taken false in Walk (n + 1) used (taken + j) counters (shifted delays taken j (getD (set bits n oldest) i false)) (set bits n oldest)
+        pub walk-later : instructionAt numbers n ≡ Later i j → (oldest : Bool) → oldest ≡ getD delays taken false → (d : ℕ) → d ≡ j → Walk (n + 1) used (taken + j) counters (shifted delays taken d (getD (set bits n oldest) i false)) (set bits n oldest)
         unfolding execute
-        walk-later e =
+        walk-later e oldest first d own =
             let t = here k f h (Later i j) e in
-            let oldest = getD delays taken false in
             let is : getD (set bits n oldest) i false ≡ bit (done n) i = getD-set-other bits n i oldest false (omega (arith, t .earlier)) ∙ bit-read i (omega (arith, t .earlier)) in
-            more k f h (Later i j) e oldest used (taken + j) counters _ (rw (is, ← w .own-counters, ← w .own-used, ← w .own-delays, ← w .own-taken)) (omega arith) (omega arith) refl (shifted-length delays taken j _ (omega (arith, t .some)) (omega (arith, t .own-line)))
+            rw own
+            (more k f h (Later i j) e oldest used (taken + j) counters _ (rw (is, first, ← w .own-counters, ← w .own-used, ← w .own-delays, ← w .own-taken)) (omega arith) (omega arith) refl (shifted-length delays taken j _ (omega (arith, t .some)) (omega (arith, t .own-line))))
 
   -- Once all instructions are done
   pub walk-all : {n used taken : ℕ} {counters : List ℕ} {delays bits : List Bool} → Walk n used taken counters delays bits → (k : ℕ) → n ≡ k → 1 ≤ k → Leaves (codeIn numbers k) (executed frame (codeIn numbers k) (start r)) bits₀ counters delays bits (getD bits (k - 1) false)

@@ -2,10 +2,10 @@
 -- after these instructions, give what all the bytes give. Each way out of a turn is a law: one instruction more, the end, or a refusal.
 use mathlib.Core.Path.{_≡_, refl, sym, ap, _∙_}
 use mathlib.Core.List.{List, [], _∷_, _++_}
-use Prim.Native.Nat.{ℕ, _+_, _*_, _≤_, _<_}
+use Prim.Native.Nat.{ℕ, _+_, _*_, _≤_}
 use native.Mathlib.Omega.{arith}
 use lib.ListN.{length, set, replicate}
-use Rattle.reading.specs.InTurn.{Verdict, Walked}
+use Rattle.reading.specs.InTurn.{Walked}
 use Rattle.reading.specs.Items.{itemAt}
 use Rattle.reading.specs.Limits.{limits}
 use Rattle.reading.specs.Padded.{padded}
@@ -15,12 +15,12 @@ use Rattle.reading.specs.declared.refusal.Refusal.{Refusal}
 use Rattle.reading.proofs.Bytes.{AllBytes, item-back}
 use Rattle.reading.proofs.InTurn as in-turn
 use Rattle.sequencer.specs.Code.{Code, instructionOf}
-use Rattle.sequencer.specs.Loading.{rowOf, judgeOf, countsOf, verdictOf, codeKind, readCode, programOf, flat, reachesIn, distanceIn, Within, Fine}
+use Rattle.sequencer.specs.Loading.{rowOf, judgeOf, countsOf, verdictOf, codeKind, readCode, programOf, flat, reachesIn, distanceIn}
 use Rattle.sequencer.specs.declared.judge.Counts.{Counts}
 use Rattle.sequencer.specs.declared.judge.Judged.{Judged}
 use Rattle.sequencer.specs.declared.judge.Row.{Row}
 use Rattle.sequencer.specs.declared.load.Loaded.{Loaded}
-use Rattle.sequencer.specs.declared.load.Program.{Program}
+use Rattle.sequencer.specs.Good.{Within, Fine}
 use Rattle.sequencer.proofs.Flat.{flat-more, flat-length, four-more}
 use Rattle.sequencer.proofs.Instructions.{four-numbers}
 use Rattle.sequencer.proofs.Judging.{passed}
@@ -65,9 +65,9 @@ module _ (bytes numbers : List ℕ) (counts : Counts) (at : ℕ) (t : Turn bytes
     unfolding countsOf
     turn-room place d e = rw (t .own) (ready place d e .0 .instructions)
 
-    pub turn-more : (d : Counts) → Judged.Next d ≡ judgeOf counts at row → AllBytes bytes → let n = counts .instructions in Turn bytes (set (set (set (set numbers (4 * n) code) (4 * n + 1) i) (4 * n + 2) j) (4 * n + 3) k) d next
+    pub turn-more : (d : Counts) → Judged.Next d ≡ judgeOf counts at row → AllBytes bytes → (after : List ℕ) → let n = counts .instructions in after ≡ set (set (set (set numbers (4 * n) code) (4 * n + 1) i) (4 * n + 2) j) (4 * n + 3) k → Turn bytes after d next
     unfolding countsOf
-    turn-more d e small =
+    turn-more d e small after stored =
         let (f, within, counted) = ready at d e in
         let instruction = instructionOf code i j k in
         let (fits, stands) = item-back Table.Code bytes at code i j k next small (sym read) in
@@ -78,5 +78,5 @@ module _ (bytes numbers : List ℕ) (counts : Counts) (at : ℕ) (t : Turn bytes
           turn = in-turn.turn-more codeKind bytes at (t .code) (t .turn) code i j k next read instruction refl (ap verdictOf (rw (own-row, t .own) at e)) (in-turn.forward Table.Code bytes at code i j k next small read);
           own = counted;
           within = within;
-          array = array;
+          array = stored ∙ array;
         }

@@ -3,7 +3,6 @@
 use mathlib.Core.Path.{_≡_, sym, _∙_}
 use Rattle.sequencer.proofs.load.decode.Reads as decode
 use Rattle.sequencer.proofs.load.load_code.Reads as load-code
-use Rattle.sequencer.proofs.registers.frame_through.Reads as frame-through
 use Rattle.sequencer.proofs.registers.Registers.fresh.Reads as fresh
 use Rattle.sequencer.proofs.registers.Registers.step.Reads as step
 use Rattle.sequencer.proofs.run.run.Reads as run
@@ -24,12 +23,3 @@ pub run-unique : (κs : _) (a : _) (r s : _) (x y : _) → run.Post κs a r x �
 run-unique κs a r s x y p q =
     let e : r ≡ s = p .0 ∙ sym (q .0) in
     (e, p .1 ∙ sym (rw (← e) at (q .1)))
-
-pub frame-through-unique : (κs : _) (a : _) (r s : _) (x y : _) → frame-through.Post κs a r x → frame-through.Post κs a s y
-    → (r ≡ s) × (x .1 .1 .1 .0 .now ≡ y .1 .1 .1 .0 .now) × (x .1 .1 .1 .1 .0 .now ≡ y .1 .1 .1 .1 .0 .now) × (x .1 .1 .1 .1 .1 .0 .now ≡ y .1 .1 .1 .1 .1 .0 .now)
-frame-through-unique κs a r s x y p q = (
-  p .own-output ∙ sym (q .own-output),
-  p .own-counters ∙ sym (q .own-counters),
-  p .own-delays ∙ sym (q .own-delays),
-  p .own-bits ∙ sym (q .own-bits),
-)

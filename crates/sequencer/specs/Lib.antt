@@ -6,3 +6,5 @@ pub mod Loading
 pub mod Stepping
 pub mod Running
 pub mod Samples
+pub mod Good
+pub mod Programs

@@ -3,9 +3,9 @@
 -- or d > 255" and "12 321st instruction, 17th REACH, or distances above 256", in this order.
 use mathlib.Core.Bool.{Bool, cond, _||_}
 use mathlib.Core.List.{List, [], _∷_, _++_}
-use Prim.Native.Nat.{ℕ, zero, suc, _+_, _*_, _≤_, _<_, max}
+use Prim.Native.Nat.{ℕ, _+_, _*_, max}
 use lib.Dec.{ltb}
-use lib.ListN.{length, getD, take}
+use lib.ListN.{length}
 use Rattle.reading.specs.InTurn.{Verdict, fine, bad, Kind, Walked, items, refused, walked}
 use Rattle.reading.specs.Limits.{limits}
 use Rattle.reading.specs.Padded.{padded}
@@ -109,34 +109,3 @@ flat (i ∷ is) = numbersOf i ++ flat is
 -- What loading keeps of code: the answer, and the instructions by their numbers, in an array with zeros behind
 unfoldable pub programOf : Walked Instruction → Program
 programOf read = record { loaded = loadedOf read; numbers = padded (4 * limits .instructions) (flat (codeOf read)) }
-
--- The instruction that stands in an array of such numbers
-unfoldable pub instructionAt : List ℕ → ℕ → Instruction
-instructionAt numbers n =
-    instructionOf (getD numbers (4 * n) 0) (getD numbers (4 * n + 1) 0) (getD numbers (4 * n + 2) 0) (getD numbers (4 * n + 3) 0)
-
--- The first so many of them
-unfoldable pub codeIn : List ℕ → ℕ → Code
-codeIn numbers zero = []
-codeIn numbers (suc n) = codeIn numbers n ++ instructionAt numbers n ∷ []
-
--- Counts of code that is not too large
-pub record Within (c : Counts) : Type 0 where
-  pub instructions : c .instructions ≤ limits .instructions
-  pub reaches : c .reaches ≤ limits .counters
-  pub distance : c .distance ≤ limits .delays
-
--- An instruction that no test refuses after those before it
-pub record Fine (is : Code) (i : Instruction) : Type 0 where
-  pub flag : rowOf i .flag ≤ limits .flag
-  pub earlier : rowOf i .needs ≤ length is
-  pub width : rowOf i .width ≤ limits .width
-  pub some : rowOf i .later ≤ rowOf i .distance
-  pub near : rowOf i .distance ≤ limits .distance
-  pub instructions : length is + 1 ≤ limits .instructions
-  pub counters : reachesIn is + rowOf i .reach ≤ limits .counters
-  pub delays : distanceIn is + rowOf i .distance ≤ limits .delays
-
--- Code that no test refuses: each instruction is fine after those before it
-abbrev pub Good : Code → Type 0
-Good code = (n : ℕ) → n < length code → Fine (take n code) (getD code n One)

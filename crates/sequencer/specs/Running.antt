@@ -2,7 +2,7 @@
 -- buffer's first byte, and the bytes behind the answer stay". The byte of a frame is the output after the clip from that frame to its end.
 use mathlib.Core.Bool.{Bool, true, false, cond, _||_}
 use mathlib.Core.List.{List, [], _∷_}
-use Prim.Native.Nat.{ℕ, _*_, _≤_}
+use Prim.Native.Nat.{ℕ}
 use lib.Dec.{ltb, eqb}
 use lib.ListN.{length}
 use Rattle.reading.specs.Frames.{Clip}
@@ -11,7 +11,6 @@ use Rattle.reading.specs.Limits.{limits}
 use Rattle.reading.specs.declared.refusal.Refusal.{Refusal}
 use Rattle.sequencer.specs.Bits.{output}
 use Rattle.sequencer.specs.Code.{Instruction, Code}
-use Rattle.sequencer.specs.Loading.{codeIn, Good}
 use Rattle.sequencer.specs.Registers.{over}
 use Rattle.sequencer.specs.declared.run.Ran.{Ran}
 
@@ -40,10 +39,3 @@ ranOf (refused r) clip out = Ran.Refused r
 abbrev pub bufferAfter : Ran → Code → Clip → List ℕ → List ℕ
 bufferAfter Ran.Done code clip out = over (verdicts code clip) out
 bufferAfter (Ran.Refused r) code clip out = out
-
--- Numbers of so many instructions that no test refuses, and a clip whose verdicts have room
-pub record Loads (numbers : List ℕ) (n : ℕ) (clip out : List ℕ) : Type 0 where
-  pub some : 1 ≤ n
-  pub inside : 4 * n ≤ length numbers
-  pub good : Good (codeIn numbers n)
-  pub room : length clip ≤ length out

@@ -2,7 +2,8 @@
 ghost use mathlib.Core.Path.{_≡_};
 ghost use Prim.Native.Nat.{_+_, max};
 ghost use Rattle.sequencer.specs.Code.{instructionOf};
-ghost use Rattle.sequencer.specs.Loading.{rowOf, badWidth, tooLarge, countedOf, judgeOf, Within};
+ghost use Rattle.sequencer.specs.Loading.{rowOf, badWidth, tooLarge, countedOf, judgeOf};
+ghost use Rattle.sequencer.specs.Good.{Within};
 use reading::limits::COUNTERS;
 use reading::limits::DELAYS;
 use reading::limits::MOST_DISTANCE;

@@ -1,14 +1,15 @@
 // Registers, and one frame through code.
 ghost use mathlib.Core.Bool.{not, _&&_};
 ghost use mathlib.Core.Path.{_≡_};
-ghost use Prim.Native.Nat.{_+_, _≤_};
+ghost use Prim.Native.Nat.{_+_, _-_, _≤_, _<_};
 ghost use lib.ListN.{length};
 ghost use Rattle.reading.specs.Frames.{hasFlag};
 ghost use Rattle.reading.specs.Limits.{limits};
 ghost use Rattle.sequencer.specs.Bits.{next};
-ghost use Rattle.sequencer.specs.Loading.{readCode, codeIn};
+ghost use Rattle.sequencer.specs.Loading.{readCode};
 ghost use Rattle.sequencer.specs.Registers.{counterOf, kept, freshRegisters, start, executed, shifted};
-ghost use Rattle.sequencer.specs.Stepping.{Fits, Leaves, steppedOf};
+ghost use Rattle.sequencer.specs.Stepping.{steppedOf};
+ghost use Rattle.sequencer.specs.Programs.{codeIn, Fits, Leaves};
 use crate::load::Loaded;
 use crate::load::decode;
 use reading::limits::COUNTERS;
@@ -16,7 +17,10 @@ use reading::limits::DELAYS;
 use reading::limits::MOST_INSTRUCTIONS;
 use reading::refusal::Refusal;
 
-// Sixteen counters, each 0 for "none" and else one more than its count, and 256 delay bits.
+// What stands for "none" in a counter; a count is kept as one more.
+const NONE: u16 = 0;
+
+// Sixteen counters and 256 delay bits.
 pub struct Registers {
     pub counters: [u16; COUNTERS],
     pub delays: [bool; DELAYS],
@@ -61,23 +65,23 @@ fn next_counter(counter: u16, width: u16, i: bool, j: bool) -> u16
         return 1;
     }
     if !i {
-        return 0;
+        return NONE;
     }
-    if counter == 0 {
-        return 0;
+    if counter == NONE {
+        return NONE;
     }
-    if width < counter {
-        return 0;
+    let count = counter - 1;
+    if width <= count {
+        return NONE;
     }
     counter + 1
 }
 
-// Moves the line of so many delay bits at a place on by one: the oldest falls out, and the newest comes in last.
-fn shift_in(delays: &mut [bool], at: usize, distance: usize, newest: bool)
-    requires { ⌜ (1 ≤ distance) × (at + distance ≤ length (now delays)) ⌝ }
-    ensures { λ r. ⌜ now (delays .exit) ≡ shifted (now (delays .entry)) at distance newest ⌝ }
+// Moves the line of delay bits between two places on by one: the oldest falls out, and the newest comes in last.
+fn shift_in(delays: &mut [bool], at: usize, last: usize, newest: bool)
+    requires { ⌜ (at ≤ last) × (last < length (now delays)) ⌝ }
+    ensures { λ r. ⌜ now (delays .exit) ≡ shifted (now (delays .entry)) at (last + 1 - at) newest ⌝ }
 {
-    let last = at + distance - 1;
     let mut p = at;
     while p < last {
         delays[p] = delays[p + 1];
@@ -88,7 +92,7 @@ fn shift_in(delays: &mut [bool], at: usize, distance: usize, newest: bool)
 
 // One frame through code that is loaded: its instructions in turn each write a bit, and take counters and delay bits in code order. Answers
 // the last bit. The bits are working space.
-pub fn frame_through(
+pub(crate) fn frame_through(
     numbers: &[u16],
     count: usize,
     frame: u8,
@@ -124,14 +128,16 @@ pub fn frame_through(
             0x04 => {
                 let next = next_counter(counters[used], numbers[base + 3], bits[i], bits[j]);
                 counters[used] = next;
-                bits[n] = next != 0;
+                bits[n] = next != NONE;
                 used += 1;
                 n += 1;
             }
             _ => {
+                let behind = taken + j;
+                let last = behind - 1;
                 bits[n] = delays[taken];
-                shift_in(&mut *delays, taken, j, bits[i]);
-                taken += j;
+                shift_in(&mut *delays, taken, last, bits[i]);
+                taken = behind;
                 n += 1;
             }
         }
@@ -145,7 +151,7 @@ impl Registers {
         ensures { λ r. ⌜ r ≡ freshRegisters ⌝ }
     {
         Registers {
-            counters: [0; COUNTERS],
+            counters: [NONE; COUNTERS],
             delays: [false; DELAYS],
         }
     }

@@ -1,9 +1,9 @@
 // The run: code over a clip, from the last frame to the first, one byte for each frame.
 ghost use mathlib.Core.Path.{_≡_};
 ghost use Rattle.sequencer.specs.Loading.{readCode, codeOf};
-ghost use Rattle.sequencer.specs.Loading.{codeIn};
 ghost use Rattle.sequencer.specs.Registers.{over};
-ghost use Rattle.sequencer.specs.Running.{badClip, byteOf, verdicts, ranOf, bufferAfter, Loads};
+ghost use Rattle.sequencer.specs.Running.{badClip, byteOf, verdicts, ranOf, bufferAfter};
+ghost use Rattle.sequencer.specs.Programs.{codeIn, Loads};
 use crate::load::Loaded;
 use crate::load::decode;
 use crate::registers::frame_through;
@@ -47,18 +47,19 @@ fn run_frames(numbers: &[u16], count: usize, clip: &[u8], out: &mut [u8])
     let mut counters = [0u16; COUNTERS];
     let mut delays = [false; DELAYS];
     let mut bits = [false; MOST_INSTRUCTIONS];
-    let mut left = clip.len();
-    while 0 < left {
-        left -= 1;
+    let mut read = 0;
+    while read < clip.len() {
+        let at = clip.len() - 1 - read;
         let bit = frame_through(
             numbers,
             count,
-            clip[left],
+            clip[at],
             &mut counters,
             &mut delays,
             &mut bits,
         );
-        out[left] = byte_of(bit);
+        out[at] = byte_of(bit);
+        read += 1;
     }
 }
 

@@ -1,4 +1,5 @@
-//! An independent reference for rules, written straight from document 01.
+//! An independent reference for rules and the sequencer, written straight from
+//! document 01.
 //!
 //! Each module does one job in the plainest way. Nothing here is shared with
 //! the proved library: no code and no tables.
@@ -9,12 +10,24 @@
 //! - `write`: a formula as rule bytes.
 //! - `random`: repeatable random rules, good and bad.
 //! - `cases`: the list of rules that both programs load.
-//! - `stream`: the binary stream of rules, and rules as text lines.
+//! - `stream`: bytes in a binary stream, and rules as text lines.
+//! - `code`: sequencer code, loaded from its bytes and written.
+//! - `machine`: the registers, one step, and the run over a clip.
+//! - `emit`: a formula as sequencer code.
+//! - `random_code`: repeatable random code, good and bad, registers and clips.
+//! - `case`: a case for the sequencer, in a stream and as text, and its answer.
+//! - `sequencer_cases`: the lists of cases that both programs answer.
 
+pub mod case;
 pub mod cases;
+pub mod code;
+pub mod emit;
+pub mod machine;
 pub mod meaning;
 pub mod number;
 pub mod random;
+pub mod random_code;
 pub mod rule;
+pub mod sequencer_cases;
 pub mod stream;
 pub mod write;

@@ -1,13 +1,21 @@
-//! The program: writes the list of cases, loads a stream of rules, packs text.
+//! The program: writes the lists of cases, answers a stream of them, packs and
+//! unpacks text.
 
-use second::{cases, rule, stream};
+use second::case::{self, Case};
+use second::{cases, rule, sequencer_cases, stream};
 use std::io::{self, BufRead, BufWriter, Write};
 use std::process::ExitCode;
 
 const USE: &str = "use:
   second cases SEED   write the stream of rules for a seed
   second load         read a stream of rules, write one line for each
-  second pack         read rules as lines of hex bytes, write the stream";
+  second pack         read rules as lines of hex bytes, write the stream
+for the sequencer:
+  second load-cases SEED, step-cases SEED, run-cases SEED
+                      write the stream of cases for a seed
+  second answer       read a stream of cases, write one line for each
+  second pack-cases   read cases as lines of text, write the stream
+  second unpack-cases read a stream of cases, write them as lines of text";
 
 fn main() -> ExitCode {
     let arguments: Vec<String> = std::env::args().skip(1).collect();
@@ -16,6 +24,12 @@ fn main() -> ExitCode {
         ["cases", seed] => write_cases(seed),
         ["load"] => load_stream(),
         ["pack"] => pack_lines(),
+        ["load-cases", seed] => write_list(seed, sequencer_cases::load_cases),
+        ["step-cases", seed] => write_list(seed, sequencer_cases::step_cases),
+        ["run-cases", seed] => write_list(seed, sequencer_cases::run_cases),
+        ["answer"] => write_lines(case::answer),
+        ["pack-cases"] => pack_cases(),
+        ["unpack-cases"] => write_lines(case::line_of_case),
         _ => Err(USE.to_string()),
     };
     match result {
@@ -31,15 +45,18 @@ fn said(error: io::Error) -> String {
     format!("second: {error}")
 }
 
+fn seed_of(word: &str) -> Result<u64, String> {
+    word.parse()
+        .map_err(|_| format!("second: {word:?} is not a seed"))
+}
+
 /// Writes all cases of a seed.
 fn write_cases(seed: &str) -> Result<(), String> {
-    let seed = seed
-        .parse()
-        .map_err(|_| format!("second: {seed:?} is not a seed"))?;
+    let seed = seed_of(seed)?;
     let mut out = BufWriter::new(io::stdout().lock());
     for part in cases::parts(seed) {
         for rule in &part.rules {
-            stream::write_rule(&mut out, rule).map_err(said)?;
+            stream::write_bytes(&mut out, rule).map_err(said)?;
         }
     }
     out.flush().map_err(said)
@@ -49,7 +66,7 @@ fn write_cases(seed: &str) -> Result<(), String> {
 fn load_stream() -> Result<(), String> {
     let mut input = io::stdin().lock();
     let mut out = BufWriter::new(io::stdout().lock());
-    while let Some(bytes) = stream::read_rule(&mut input).map_err(said)? {
+    while let Some(bytes) = stream::read_bytes(&mut input).map_err(said)? {
         let answer = rule::load(&bytes);
         writeln!(out, "{}", stream::answer_line(&answer)).map_err(said)?;
     }
@@ -63,7 +80,39 @@ fn pack_lines() -> Result<(), String> {
         let rule = stream::rule_of_line(&line.map_err(said)?)
             .map_err(|words| format!("second: line {}: {words}", k + 1))?;
         if let Some(rule) = rule {
-            stream::write_rule(&mut out, &rule).map_err(said)?;
+            stream::write_bytes(&mut out, &rule).map_err(said)?;
+        }
+    }
+    out.flush().map_err(said)
+}
+
+/// Writes the cases of a list for the sequencer.
+fn write_list(seed: &str, list: fn(u64) -> Vec<Case>) -> Result<(), String> {
+    let mut out = BufWriter::new(io::stdout().lock());
+    for case in list(seed_of(seed)?) {
+        case::write_case(&mut out, &case).map_err(said)?;
+    }
+    out.flush().map_err(said)
+}
+
+/// Writes a line for each case of a stream for the sequencer.
+fn write_lines(line: fn(&Case) -> String) -> Result<(), String> {
+    let mut input = io::stdin().lock();
+    let mut out = BufWriter::new(io::stdout().lock());
+    while let Some(case) = case::read_case(&mut input).map_err(said)? {
+        writeln!(out, "{}", line(&case)).map_err(said)?;
+    }
+    out.flush().map_err(said)
+}
+
+/// Turns lines of text into a stream of cases for the sequencer.
+fn pack_cases() -> Result<(), String> {
+    let mut out = BufWriter::new(io::stdout().lock());
+    for (k, line) in io::stdin().lock().lines().enumerate() {
+        let case = case::case_of_line(&line.map_err(said)?)
+            .map_err(|words| format!("second: line {}: {words}", k + 1))?;
+        if let Some(case) = case {
+            case::write_case(&mut out, &case).map_err(said)?;
         }
     }
     out.flush().map_err(said)

@@ -175,8 +175,8 @@ fn split_window(bytes: &[u8]) -> Result<(Window, &[u8]), u8> {
     Ok((Window { a, b }, rest))
 }
 
-/// Splits one number off.
-fn split_number(bytes: &[u8]) -> Result<(usize, &[u8]), u8> {
+/// Splits one number off, or gives the number of the refusal: 3 or 4.
+pub fn split_number(bytes: &[u8]) -> Result<(usize, &[u8]), u8> {
     match number::read(bytes) {
         Ok((value, length)) => Ok((value, &bytes[length..])),
         Err(number::Fault::Ends) => Err(3),

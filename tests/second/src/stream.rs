@@ -1,19 +1,19 @@
-//! The binary stream of rules, rules as text lines, and answers as lines.
+//! Bytes in a binary stream, rules as text lines, and answers as lines.
 
 use crate::rule::{Refusal, Rule};
 use std::io::{self, Read, Write};
 
-/// Writes one rule to a stream: its length as four bytes, lowest first, then
-/// its bytes.
-pub fn write_rule(out: &mut impl Write, rule: &[u8]) -> io::Result<()> {
-    let length = u32::try_from(rule.len())
-        .map_err(|_| io::Error::new(io::ErrorKind::InvalidInput, "a rule is too long"))?;
+/// Writes bytes to a stream, a rule for one: their length as four bytes, lowest
+/// first, then they themselves.
+pub fn write_bytes(out: &mut impl Write, bytes: &[u8]) -> io::Result<()> {
+    let length = u32::try_from(bytes.len())
+        .map_err(|_| io::Error::new(io::ErrorKind::InvalidInput, "too many bytes"))?;
     out.write_all(&length.to_le_bytes())?;
-    out.write_all(rule)
+    out.write_all(bytes)
 }
 
-/// Reads the next rule of a stream, or none at its end.
-pub fn read_rule(input: &mut impl Read) -> io::Result<Option<Vec<u8>>> {
+/// Reads the next bytes of a stream, or none at its end.
+pub fn read_bytes(input: &mut impl Read) -> io::Result<Option<Vec<u8>>> {
     let length = read_up_to(input, 4)?;
     if length.is_empty() {
         return Ok(None);
@@ -22,21 +22,22 @@ pub fn read_rule(input: &mut impl Read) -> io::Result<Option<Vec<u8>>> {
         return Err(cut("the stream ends inside a length"));
     };
     let length = u32::from_le_bytes(length) as usize;
-    let rule = read_up_to(input, length)?;
-    if rule.len() < length {
-        return Err(cut("the stream ends inside a rule"));
+    let bytes = read_up_to(input, length)?;
+    if bytes.len() < length {
+        return Err(cut("the stream ends inside its bytes"));
     }
-    Ok(Some(rule))
+    Ok(Some(bytes))
 }
 
 /// Reads so many bytes, or fewer if the input ends before.
-fn read_up_to(input: &mut impl Read, count: usize) -> io::Result<Vec<u8>> {
+pub fn read_up_to(input: &mut impl Read, count: usize) -> io::Result<Vec<u8>> {
     let mut bytes = Vec::new();
     input.take(count as u64).read_to_end(&mut bytes)?;
     Ok(bytes)
 }
 
-fn cut(words: &str) -> io::Error {
+/// The error of a stream that ends too early.
+pub fn cut(words: &str) -> io::Error {
     io::Error::new(io::ErrorKind::UnexpectedEof, words)
 }
 
@@ -79,21 +80,21 @@ mod tests {
         let rules = [vec![], vec![0x10], vec![0x20; 70_000], vec![]];
         let mut stream = Vec::new();
         for rule in &rules {
-            write_rule(&mut stream, rule).unwrap();
+            write_bytes(&mut stream, rule).unwrap();
         }
         assert_eq!(&stream[..9], [0, 0, 0, 0, 1, 0, 0, 0, 0x10]);
         assert_eq!(&stream[9..13], [0x70, 0x11, 1, 0]);
         let mut input = &stream[..];
         for rule in &rules {
-            assert_eq!(read_rule(&mut input).unwrap().as_ref(), Some(rule));
+            assert_eq!(read_bytes(&mut input).unwrap().as_ref(), Some(rule));
         }
-        assert_eq!(read_rule(&mut input).unwrap(), None);
+        assert_eq!(read_bytes(&mut input).unwrap(), None);
     }
 
     #[test]
     fn a_cut_stream_is_an_error() {
         for stream in [&[1u8][..], &[1, 0, 0], &[1, 0, 0, 0], &[2, 0, 0, 0, 9]] {
-            assert!(read_rule(&mut &stream[..]).is_err());
+            assert!(read_bytes(&mut &stream[..]).is_err());
         }
     }
 

@@ -1,23 +1,17 @@
 -- `shift_in` meets its contract. The loop's invariant: up to p the line has moved (`moved`). The measure is how far p is from the last bit.
 use native.Mathlib.Omega.{arith}
 use Prim.Native.Nat.{_+_, _-_, _≤_}
-use mathlib.Core.Path.{_≡_, sym, ap, _∙_}
+use mathlib.Core.Path.{_≡_, ap, _∙_}
 use lib.ListN.{length, length-set}
 use Rattle.sequencer.proofs.Shifting.{moved, moved-none, moved-length, moved-more, shifted-moved}
 use Rattle.sequencer.proofs.registers.shift_in.Statement.{statement}
 use Rattle.sequencer.proofs.registers.shift_in.Tie as tie
 
 abbrev Inv-loop : tie.InvT-loop
-Inv-loop delays₀ at distance newest last p₀ delays p = (delays ≡ moved delays₀ at p) × (at ≤ p) × (p ≤ last)
+Inv-loop delays₀ at last newest p₀ delays p = (delays ≡ moved delays₀ at p) × (at ≤ p) × (p ≤ last)
 
 abbrev μ-loop : tie.MeasureT-loop
-μ-loop delays₀ at distance newest last p₀ delays p = last - p
-
-add-last : tie.Need-add-last Inv-loop μ-loop
-add-last c = omega arith
-
-sub-last : tie.Need-sub-last Inv-loop μ-loop
-sub-last c = omega arith
+μ-loop delays₀ at last newest p₀ delays p = last - p
 
 loop-holds : tie.Need-loop-holds Inv-loop μ-loop
 loop-holds c = (moved-none _ _, omega arith, omega arith)
@@ -60,8 +54,8 @@ same-length c = simp length-set (long (c .before))
 returns : tie.Need-returns Inv-loop μ-loop
 returns c = let l = c .before in
     let a = l .before .args in
-    let last : l .loop .p ≡ a .at + a .distance - 1 = omega arith in
-    rw (l .loop .inv .0, last) (shifted-moved (a .delays .now) (a .at) (a .distance) _ (omega arith) (omega arith) (omega arith) (a .newest))
+    let last : l .loop .p ≡ a .last = omega arith in
+    rw (l .loop .inv .0, last) (shifted-moved (a .delays .now) (a .at) (a .last + 1 - a .at) (a .last) (omega arith) (omega arith) (omega arith) (a .newest))
 
 pub shift-in-spec : {M : Type 1} → statement M
 shift-in-spec =
@@ -69,8 +63,6 @@ shift-in-spec =
     (tie.spec
     Inv-loop
     μ-loop
-    add-last
-    sub-last
     loop-holds
     add-delays
     slice-read-delays

@@ -1,7 +1,5 @@
 -- `bad_clip` meets its contract: what the definition tests follows from what the code tests.
-use native.Mathlib.Omega.{arith}
-use Rattle.reading.specs.Limits.{limits}
-use borrow.Author.Tests.{lt-ltb, le-ltb, ne-eqb}
+use borrow.Author.Tests.{ne-eqb}
 use Rattle.sequencer.specs.Running.{badClip}
 use Rattle.sequencer.proofs.run.bad_clip.Statement.{statement}
 use Rattle.sequencer.proofs.run.bad_clip.Tie as tie

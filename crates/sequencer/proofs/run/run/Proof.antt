@@ -1,11 +1,12 @@
 -- `run` meets its contract: the tests of code, clip and buffer are the definition's, in its order, and past them the frames are run.
 use native.Mathlib.Omega.{arith}
-use mathlib.Core.Path.{_≡_, refl, sym, _∙_}
+use mathlib.Core.Path.{_≡_, refl, sym}
 use Rattle.reading.proofs.Bytes.{AllBytes}
 use Rattle.sequencer.proofs.Accepted.{Ready, ready, not-ready}
 use Rattle.sequencer.proofs.Running.{ran-bad, ran-short, ready-loads, ran-done, ran-all, ran-refused}
 use lib.ListN.{length}
-use mathlib.Core.Bool.{false}
+use mathlib.Core.Bool.{true, false}
+use lib.Dec.{ltb}
 use Rattle.sequencer.specs.Running.{badClip}
 use borrow.Author.Needs.{needs}
 use Rattle.sequencer.proofs.run.run.Statement.{statement}
@@ -27,14 +28,17 @@ bad-clip-requires : tie.Need-bad-clip-requires
 bad-clip-requires c κs = search needs
 
 returns : tie.Need-returns
-returns c = (ran-bad _ _ _ _ _ (is-ready (c .before .before .before)) (sym (c .before .bad-clip .ensures) ∙ c .if1 .taken), refl)
-
-returns-2 : tie.Need-returns-2
-returns-2 c = (ran-short _ _ _ _ _ (is-ready (c .before .before .before .before)) (sym (c .before .before .bad-clip .ensures) ∙ c .before .if1 .left) (c .if2 .taken), refl)
+returns c = let bad : badClip (length (c .before .before .before .before .before .before .before .before .before .args .clip .now)) ≡ true = cc in
+    (ran-bad _ _ _ _ _ (is-ready (c .before .before .before)) bad, refl)
 
 -- the clip can be run
 fit : (c : tie.Else1) → badClip (length (c .before .before .before .before .before .before .before .before .before .args .clip .now)) ≡ false
-fit c = sym (c .before .bad-clip .ensures) ∙ c .if1 .left
+fit c = cc
+
+returns-2 : tie.Need-returns-2
+returns-2 c = let a = c .before .before .before .before .before .before .before .before .before .before .args in
+    let short : ltb (length (a .out .now)) (length (a .clip .now)) ≡ true = cc in
+    (ran-short _ _ _ _ _ (is-ready (c .before .before .before .before)) (fit (c .before)) short, refl)
 
 slice-aggregate-run-frames : tie.Need-slice-aggregate-run-frames
 slice-aggregate-run-frames c = search needs

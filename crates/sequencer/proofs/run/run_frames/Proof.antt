@@ -1,26 +1,31 @@
--- `run_frames` meets its contract. The loop's invariant is `Runs`: one frame more is one step. The measure is how many frames are left.
+-- `run_frames` meets its contract. The loop's invariant is `Runs`: one frame more is one step. The measure is how many frames are not read yet.
 use borrow.Author.Needs.{needs}
-use mathlib.Core.Path.{sym}
 use native.Mathlib.Omega.{arith}
-use Rattle.sequencer.specs.Running.{Loads}
+use mathlib.Core.Path.{sym}
+use Prim.Native.Nat.{_-_}
+use lib.ListN.{length}
 use Rattle.sequencer.proofs.Running.{Runs, runs-first, runs-fits, runs-more, runs-all}
 use Rattle.sequencer.proofs.run.run_frames.Statement.{statement}
 use Rattle.sequencer.proofs.run.run_frames.Tie as tie
+use Rattle.sequencer.specs.Programs.{Loads}
 
 abbrev Inv-loop : tie.InvT-loop
-Inv-loop numbers count clip out₀ counters₀ delays₀ bits₀ left₀ out counters delays bits left = (f : Loads numbers count clip out₀) × Runs numbers count clip out₀ f counters delays bits out left
+Inv-loop numbers count clip out₀ counters₀ delays₀ bits₀ read₀ out counters delays bits read = (f : Loads numbers count clip out₀) × Runs numbers count clip out₀ f counters delays bits out read
 
 abbrev μ-loop : tie.MeasureT-loop
-μ-loop numbers count clip out₀ counters₀ delays₀ bits₀ left₀ out counters delays bits left = left
+μ-loop numbers count clip out₀ counters₀ delays₀ bits₀ read₀ out counters delays bits read = length clip - read
 
 loop-holds : tie.Need-loop-holds Inv-loop μ-loop
 loop-holds c = (c .before .before .before .pre, runs-first _ _ _ _ (c .before .before .before .pre))
 
-sub-left : tie.Need-sub-left Inv-loop μ-loop
-sub-left c = omega arith
+sub-at : tie.Need-sub-at Inv-loop μ-loop
+sub-at c = omega arith
+
+sub-at-2 : tie.Need-sub-at-2 Inv-loop μ-loop
+sub-at-2 c = omega arith
 
 shared-slice-read-frame-through : tie.Need-shared-slice-read-frame-through Inv-loop μ-loop
-shared-slice-read-frame-through c = omega (arith, c .before .before .loop .inv .1 .inside)
+shared-slice-read-frame-through c = omega arith
 
 slice-aggregate-frame-through : tie.Need-slice-aggregate-frame-through Inv-loop μ-loop
 slice-aggregate-frame-through c = sym (c .before .before .before .loop .inv .1 .all-counters)
@@ -39,7 +44,10 @@ byte-of-requires c κs = search needs
 
 slice-write-out : tie.Need-slice-write-out Inv-loop μ-loop
 slice-write-out c = let i = c .before .before .before .before .before .before .before .before .before .before .loop .inv in
-    omega (arith, i .1 .inside, i .1 .all, i .0 .room)
+    omega (arith, i .1 .all, i .0 .room)
+
+add-read : tie.Need-add-read Inv-loop μ-loop
+add-read c = omega arith
 
 loop-less : tie.Need-loop-less Inv-loop μ-loop
 loop-less c = omega arith
@@ -63,7 +71,8 @@ run-frames-spec =
     Inv-loop
     μ-loop
     loop-holds
-    sub-left
+    sub-at
+    sub-at-2
     shared-slice-read-frame-through
     slice-aggregate-frame-through
     slice-aggregate-frame-through-2
@@ -71,6 +80,7 @@ run-frames-spec =
     frame-through-requires
     byte-of-requires
     slice-write-out
+    add-read
     loop-less
     loop-again
     same-length

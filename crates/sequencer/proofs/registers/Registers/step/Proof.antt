@@ -2,7 +2,7 @@
 use lib.ListN.{length}
 use Rattle.reading.specs.Limits.{limits}
 use native.Mathlib.Omega.{arith}
-use mathlib.Core.Path.{_≡_, sym, _∙_}
+use mathlib.Core.Path.{_≡_, sym}
 use Rattle.reading.proofs.Bytes.{AllBytes}
 use Rattle.sequencer.proofs.Accepted.{Ready, ready, not-ready}
 use Rattle.sequencer.proofs.Stepping.{ready-fits, stepped-ready, stepped-refused}

@@ -1,0 +1,2 @@
+-- The theorems about the contracts.
+pub mod Unique

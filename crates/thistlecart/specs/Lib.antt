@@ -1,0 +1,2 @@
+-- What the contracts of `thistlecart` cite.
+pub mod Words
