@@ -3,7 +3,7 @@ use borrow.Author.Needs.{needs}
 use native.Mathlib.Omega.{arith}
 use Prim.Native.Nat.{_+_, _-_, _≤_, _<_}
 use lib.ListN.{length}
-use mathlib.Core.Path.{_≡_, refl, sym, ap, _∙_}
+use mathlib.Core.Path.{_≡_, sym, ap, _∙_}
 use Rattle.reading.specs.Items.{itemAt}
 use Rattle.reading.specs.Limits.{limits}
 use Rattle.reading.specs.declared.item.Read.{Read}
@@ -113,7 +113,7 @@ loop-less c = let d = c .before .before .before .before .before .before .before 
 
 loop-again : tie.Need-loop-again Inv-loop μ-loop
 loop-again c = let d = c .before .before .before .before .before .before .before in
-    turn-more _ _ _ _ (c .before .before .before .before .before .before .before .before .before .before .loop .inv) _ _ _ _ _ (is-item d) _ (c .before .before .before .before .before .row-of .ensures) _ (is-next (c .before .before)) (all-bytes d) _ refl
+    turn-more _ _ _ _ (c .before .before .before .before .before .before .before .before .before .before .loop .inv) _ _ _ _ _ (is-item d) _ (c .before .before .before .before .before .row-of .ensures) _ (is-next (c .before .before)) (all-bytes d) _ (cc)
 
 enum-known-refusal : tie.Need-enum-known-refusal Inv-loop μ-loop
 enum-known-refusal c = search needs
