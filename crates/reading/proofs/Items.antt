@@ -1,16 +1,17 @@
 -- Laws of `numbersFrom` and `itemAt`. `Reading` is where the reader of an item's numbers stands: what it has read is in its array, and the rest, read from here on,
 -- makes the item.
-use mathlib.Core.Path.{_≡_, refl, sym, _∙_}
+use mathlib.Core.Path.{_≡_, refl, sym, subst, _∙_}
 use mathlib.Core.List.{List, [], _∷_, _++_}
 use mathlib.Core.Logic.{by-cases}
 use Prim.Native.Nat.{ℕ, zero, suc, _+_, _-_, _≤_, _<_}
 use native.Mathlib.Nat.{sub-zero}
-use native.Mathlib.Decide.{decLt}
+use native.Mathlib.Decide.{decLt, ℕ-discrete}
 use native.Mathlib.Omega.{arith}
-use borrow.Author.Tests.{le-leb, lt-leb}
+use borrow.Author.Tests.{le-leb, lt-leb, ne-eqb}
 use lib.ListN.{length, getD, set, replicate, length-append, drop-of-length-le}
 use lib.Seq.{drop-cons}
-use Rattle.reading.specs.Items.{itemAt, numbersFrom, numbersOf, noCode, withNumber}
+use Rattle.reading.specs.Each.{Each}
+use Rattle.reading.specs.Items.{Row, look, itemAt, numbersFrom, numbersOf, noCode, withNumber}
 use Rattle.reading.specs.Numbers.{numberAt}
 use Rattle.reading.specs.Padded.{padded}
 use Rattle.reading.specs.declared.item.Table.{Table}
@@ -106,3 +107,12 @@ end-back table bytes at e =
         let u : Refused (UnknownCode at) ≡ itemAt table bytes at = unknown table bytes at h n refl (omega arith) in
         let z : _≡_ {A = ℕ} 0 1 = cc in
         omega arith)
+
+-- what holds of each code of a table holds of each code that the table knows
+pub by-row : (P : ℕ → Type 0) (rows : List Row) → Each (λ r. P (r .code)) rows → (code : ℕ) → look code rows < noCode → P code
+unfolding look
+by-row P [] e code known = absurd (omega arith)
+by-row P (r ∷ rows) e code known =
+    by-cases (ℕ-discrete code (r .code))
+    (λ q. subst P (sym q) (e .0))
+    (λ n. by-row P rows (e .1) code (rw (ne-eqb code (r .code) n) at known))

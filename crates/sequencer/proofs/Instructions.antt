@@ -1,16 +1,14 @@
 -- The instruction of a code byte and its numbers, code byte by code byte: what it is, its bytes and its numbers.
-use mathlib.Core.Path.{_≡_, refl, sym, subst}
+use mathlib.Core.Path.{_≡_, refl}
 use mathlib.Core.List.{[], _∷_, append-nil}
-use mathlib.Core.Logic.{by-cases}
 use Prim.Native.Nat.{ℕ, _<_}
-use native.Mathlib.Decide.{ℕ-discrete}
-use native.Mathlib.Omega.{arith}
 use borrow.Author.Tests.{ne-eqb}
 use Rattle.reading.specs.Items.{itemBytes, noCode, numbersBytes, look, instructionCodes}
 use Rattle.reading.specs.Items.{numbersOf as numbersIn}
 use Rattle.reading.specs.Padded.{padded}
 use Rattle.reading.specs.declared.item.Table.{Table}
 use Rattle.reading.proofs.Bytes.{Fitting}
+use Rattle.reading.proofs.Items.{by-row}
 use Rattle.sequencer.specs.Code.{One, Flag, Nand, Reach, Later, instructionOf, numbersOf, bytesOf}
 
 module _ (code i j k : ℕ) where
@@ -34,37 +32,16 @@ module _ (code i j k : ℕ) where
   unfolding instructionOf
   is-later a b c d = simp (ne-eqb code 0x01 a, ne-eqb code 0x02 b, ne-eqb code 0x03 c, ne-eqb code 0x04 d)
 
--- what holds of the five codes holds of each code that the table knows
-by-code : (P : ℕ → Type 0) → P 0x01 → P 0x02 → P 0x03 → P 0x04 → P 0x05 → (code : ℕ) → numbersIn Table.Code code < noCode → P code
-unfolding look instructionCodes
-by-code P a b c d e code known =
-    is 0x01 a λ n1. is 0x02 b λ n2. is 0x03 c λ n3. is 0x04 d λ n4. is 0x05 e λ n5.
-    absurd (never (simp (ne-eqb _ _ n1, ne-eqb _ _ n2, ne-eqb _ _ n3, ne-eqb _ _ n4, ne-eqb _ _ n5) at known))
-  where
-    is : (k : ℕ) → P k → ((code ≡ k → ⊥) → P code) → P code
-    is k p rest = by-cases (ℕ-discrete code k) (λ q. subst P (sym q) p) rest
-
-    never : noCode < noCode → ⊥
-    never q = omega arith
-
 -- an instruction's bytes are those of the item that is read
 pub instruction-bytes : (code : ℕ) → numbersIn Table.Code code < noCode → (i j k : ℕ) → itemBytes Table.Code code i j k ≡ bytesOf (instructionOf code i j k)
 unfolding itemBytes numbersBytes look instructionCodes bytesOf instructionOf
 instruction-bytes =
-    by-code (λ code. (i j k : ℕ) → itemBytes Table.Code code i j k ≡ bytesOf (instructionOf code i j k))
-    (λ i j k. refl)
-    (λ i j k. rw append-nil)
-    (λ i j k. rw append-nil)
-    (λ i j k. rw append-nil)
-    (λ i j k. rw append-nil)
+    by-row (λ code. (i j k : ℕ) → itemBytes Table.Code code i j k ≡ bytesOf (instructionOf code i j k)) instructionCodes
+    ((λ i j k. refl), ((λ i j k. rw append-nil), ((λ i j k. rw append-nil), ((λ i j k. rw append-nil), ((λ i j k. rw append-nil), tt)))))
 
 -- an instruction's numbers are those that are read, as those that it lacks are 0
 pub four-numbers : (code : ℕ) → numbersIn Table.Code code < noCode → (i j k : ℕ) → Fitting Table.Code code i j k → numbersOf (instructionOf code i j k) ≡ code ∷ i ∷ j ∷ k ∷ []
 unfolding look instructionCodes instructionOf numbersOf padded
 four-numbers =
-    by-code (λ code. (i j k : ℕ) → Fitting Table.Code code i j k → numbersOf (instructionOf code i j k) ≡ code ∷ i ∷ j ∷ k ∷ [])
-    (λ i j k f. cc (f .lacks))
-    (λ i j k f. cc (f .lacks))
-    (λ i j k f. cc (f .lacks))
-    (λ i j k f. refl)
-    (λ i j k f. cc (f .lacks))
+    by-row (λ code. (i j k : ℕ) → Fitting Table.Code code i j k → numbersOf (instructionOf code i j k) ≡ code ∷ i ∷ j ∷ k ∷ []) instructionCodes
+    ((λ i j k f. cc (f .lacks)), ((λ i j k f. cc (f .lacks)), ((λ i j k f. cc (f .lacks)), ((λ i j k f. refl), ((λ i j k f. cc (f .lacks)), tt)))))
