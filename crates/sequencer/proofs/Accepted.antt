@@ -11,7 +11,7 @@ use Rattle.reading.specs.Padded.{padded}
 use Rattle.reading.proofs.Bytes.{AllBytes}
 use Rattle.reading.proofs.InTurn.{walked-back}
 use Rattle.sequencer.specs.Code.{Instruction, Code, bytesOf}
-use Rattle.sequencer.specs.Loading.{rowOf, judgeOf, countsOf, verdictOf, codeKind, readCode, loadedOf, codeOf, flat, programOf}
+use Rattle.sequencer.specs.Loading.{judgeOf, countsOf, verdictOf, codeKind, readCode, loadedOf, codeOf, flat, programOf}
 use Rattle.sequencer.specs.declared.judge.Counts.{Counts}
 use Rattle.sequencer.specs.declared.judge.Judged.{Judged}
 use Rattle.sequencer.specs.declared.load.Loaded.{Loaded}
@@ -21,7 +21,7 @@ use Rattle.sequencer.specs.Programs.{codeIn, Sound}
 use Rattle.sequencer.proofs.Counting.{good-none, good-more}
 use Rattle.sequencer.proofs.Flat.{flat-length, code-back}
 use Rattle.sequencer.proofs.Instructions.{instruction-bytes}
-use Rattle.sequencer.proofs.Judging.{passed}
+use Rattle.sequencer.proofs.Judging.{judged-row, passed}
 
 judged-fine : (j : Judged) → verdictOf j ≡ fine → (d : Counts) × (j ≡ Judged.Next d)
 judged-fine (Judged.Next d) e = (d, refl)
@@ -31,7 +31,7 @@ judged-fine (Judged.Refused r) e = absurd (let z : _≡_ {A = ℕ} 0 1 = cc in o
 pub accepted-code : (bytes : List ℕ) (code : Code) → AllBytes bytes → readCode bytes ≡ items code → Good code × (bytes ≡ bytesOfAll bytesOf code) × (1 ≤ length code)
 accepted-code bytes code small e =
     walked-back codeKind bytesOf Good good-none
-    (λ is at i g j. let (d, next) = judged-fine (judgeOf (countsOf is) at (rowOf i)) j in good-more is i g (passed is at i d next .0))
+    (λ is at i g j. let (d, next) = judged-fine (judgeOf (countsOf is) at i) j in good-more is i g (passed is at i d (judged-row (countsOf is) at i ∙ next) .0))
     (λ n i j k known. instruction-bytes n known i j k) bytes code small e
 
 -- What a program that is loaded holds, for those that go through it

@@ -15,9 +15,12 @@ use Rattle.reading.specs.Frames.{Clip}
 use Rattle.reading.specs.Limits.{limits}
 use Rattle.sequencer.specs.Bits.{Wire, Counter, none, count, counter, later, wire, wireOf, wiresFrom, output}
 use Rattle.sequencer.specs.Code.{Instruction, One, Flag, Nand, Reach, Later, Code}
-use Rattle.sequencer.specs.Loading.{rowOf, reachesIn, distanceIn}
-use Rattle.sequencer.specs.Registers.{counterOf, kept, freshRegisters, start, shifted, execute, executed, registersOf, outputOf, window, ownCounter, ownDelays, countersOf, delaysOf, over, registersAfter, stepsOver}
+use Rattle.sequencer.specs.Loading.{reachOf, distanceOf, reachesIn, distanceIn}
+use Rattle.sequencer.specs.Rows.{rowOf}
+use Rattle.sequencer.specs.Registers.{counterOf, kept, freshRegisters, start, shifted, execute, executed, registersOf, outputOf}
 use Rattle.sequencer.specs.Good.{Good}
+use Rattle.sequencer.specs.After.{window, ownCounter, ownDelays, countersOf, delaysOf, registersAfter, stepsOver}
+use Rattle.sequencer.specs.Running.{over}
 use Rattle.sequencer.proofs.Counting.{good-counters, good-delays, good-lines}
 
 -- A line of bits
@@ -68,14 +71,14 @@ kept-back (count n) = refl
 
 -- How many registers an instruction takes, whatever the clip
 
-own-counter-length : (ws : List Wire) (i : Instruction) (c : Clip) → length (ownCounter ws i c) ≡ rowOf i .reach
+own-counter-length : (ws : List Wire) (i : Instruction) (c : Clip) → length (ownCounter ws i c) ≡ reachOf i
 own-counter-length ws One c = refl
 own-counter-length ws (Flag k) c = refl
 own-counter-length ws (Nand i j) c = refl
 own-counter-length ws (Reach i j w) c = refl
 own-counter-length ws (Later i d) c = refl
 
-own-delays-length : (ws : List Wire) (i : Instruction) (c : Clip) → length (ownDelays ws i c) ≡ rowOf i .distance
+own-delays-length : (ws : List Wire) (i : Instruction) (c : Clip) → length (ownDelays ws i c) ≡ distanceOf i
 own-delays-length ws One c = refl
 own-delays-length ws (Flag k) c = refl
 own-delays-length ws (Nand i j) c = refl
@@ -98,7 +101,7 @@ module _ (x : ℕ) (c : Clip) where
   bit-is ws i = List·getD-map (λ w. w (x ∷ c)) ws i (λ c. false)
 
   -- One instruction, behind those before it
-  one : (ws : List Wire) (i : Instruction) → rowOf i .later ≤ rowOf i .distance → (A R : List ℕ) (D S : List Bool) → execute x (record { bits = map (λ w. w (x ∷ c)) ws; counters = A ++ (ownCounter ws i c ++ R); used = length A; delays = D ++ (ownDelays ws i c ++ S); taken = length D }) i ≡ record { bits = map (λ w. w (x ∷ c)) (ws ++ wireOf ws i ∷ []); counters = A ++ (ownCounter ws i (x ∷ c) ++ R); used = length A + rowOf i .reach; delays = D ++ (ownDelays ws i (x ∷ c) ++ S); taken = length D + rowOf i .distance }
+  one : (ws : List Wire) (i : Instruction) → rowOf i .later ≤ distanceOf i → (A R : List ℕ) (D S : List Bool) → execute x (record { bits = map (λ w. w (x ∷ c)) ws; counters = A ++ (ownCounter ws i c ++ R); used = length A; delays = D ++ (ownDelays ws i c ++ S); taken = length D }) i ≡ record { bits = map (λ w. w (x ∷ c)) (ws ++ wireOf ws i ∷ []); counters = A ++ (ownCounter ws i (x ∷ c) ++ R); used = length A + reachOf i; delays = D ++ (ownDelays ws i (x ∷ c) ++ S); taken = length D + distanceOf i }
   unfolding execute wireOf counter
   one ws One h A R D S = simp (map-append, add-zero)
   one ws (Flag k) h A R D S = simp (map-append, add-zero)
@@ -109,7 +112,7 @@ module _ (x : ℕ) (c : Clip) where
       simp (bit-is, window-oldest (wire ws i) d x c D S, window-shifted (wire ws i) d x c D S, map-append, add-zero)
 
   -- Instructions in turn, behind those before them
-  run : (is : Code) → Each (λ i. rowOf i .later ≤ rowOf i .distance) is → (ws : List Wire) (A R : List ℕ) (D S : List Bool) → executed x is (record { bits = map (λ w. w (x ∷ c)) ws; counters = A ++ (countersOf ws is c ++ R); used = length A; delays = D ++ (delaysOf ws is c ++ S); taken = length D }) ≡ record { bits = map (λ w. w (x ∷ c)) (wiresFrom ws is); counters = A ++ (countersOf ws is (x ∷ c) ++ R); used = length A + reachesIn is; delays = D ++ (delaysOf ws is (x ∷ c) ++ S); taken = length D + distanceIn is }
+  run : (is : Code) → Each (λ i. rowOf i .later ≤ distanceOf i) is → (ws : List Wire) (A R : List ℕ) (D S : List Bool) → executed x is (record { bits = map (λ w. w (x ∷ c)) ws; counters = A ++ (countersOf ws is c ++ R); used = length A; delays = D ++ (delaysOf ws is c ++ S); taken = length D }) ≡ record { bits = map (λ w. w (x ∷ c)) (wiresFrom ws is); counters = A ++ (countersOf ws is (x ∷ c) ++ R); used = length A + reachesIn is; delays = D ++ (delaysOf ws is (x ∷ c) ++ S); taken = length D + distanceIn is }
   unfolding executed wiresFrom countersOf delaysOf reachesIn distanceIn
   run [] h ws A R D S = simp add-zero
   run (i ∷ is) h ws A R D S =
@@ -121,23 +124,23 @@ module _ (x : ℕ) (c : Clip) where
       simp (append-assoc, first)
       (simp (append-assoc, length-append, own-counter-length, own-delays-length, add-assoc) at rest)
 
-pub after-step : (code : Code) → Each (λ i. rowOf i .later ≤ rowOf i .distance) code → (x : ℕ) (c : Clip) → executed x code (start (registersAfter code c)) ≡ record { bits = map (λ w. w (x ∷ c)) (wiresFrom [] code); counters = registersAfter code (x ∷ c) .counters; used = reachesIn code; delays = registersAfter code (x ∷ c) .delays; taken = distanceIn code }
+pub after-step : (code : Code) → Each (λ i. rowOf i .later ≤ distanceOf i) code → (x : ℕ) (c : Clip) → executed x code (start (registersAfter code c)) ≡ record { bits = map (λ w. w (x ∷ c)) (wiresFrom [] code); counters = registersAfter code (x ∷ c) .counters; used = reachesIn code; delays = registersAfter code (x ∷ c) .delays; taken = distanceIn code }
 unfolding registersAfter
 after-step code h x c =
     let fresh = freshRegisters in
     let s = run x c code h [] [] (drop (reachesIn code) (fresh .counters)) [] (drop (distanceIn code) (fresh .delays)) in
     simp (counters-length, delays-length) (simp zero-add at s)
 
-pub after-registers : (code : Code) → Each (λ i. rowOf i .later ≤ rowOf i .distance) code → (x : ℕ) (c : Clip) → registersOf (executed x code (start (registersAfter code c))) ≡ registersAfter code (x ∷ c)
+pub after-registers : (code : Code) → Each (λ i. rowOf i .later ≤ distanceOf i) code → (x : ℕ) (c : Clip) → registersOf (executed x code (start (registersAfter code c))) ≡ registersAfter code (x ∷ c)
 after-registers code h x c = ap registersOf (after-step code h x c)
 
-pub after-output : (code : Code) → Each (λ i. rowOf i .later ≤ rowOf i .distance) code → (x : ℕ) (c : Clip) → outputOf code (executed x code (start (registersAfter code c))) ≡ output code (x ∷ c)
+pub after-output : (code : Code) → Each (λ i. rowOf i .later ≤ distanceOf i) code → (x : ℕ) (c : Clip) → outputOf code (executed x code (start (registersAfter code c))) ≡ output code (x ∷ c)
 unfolding output
 after-output code h x c = ap (outputOf code) (after-step code h x c) ∙ bit-is x c (wiresFrom [] code) (length code - 1)
 
 -- No frame yet
 
-own-counter-none : (ws : List Wire) (i : Instruction) → ownCounter ws i [] ≡ replicate (rowOf i .reach) 0
+own-counter-none : (ws : List Wire) (i : Instruction) → ownCounter ws i [] ≡ replicate (reachOf i) 0
 unfolding counter
 own-counter-none ws One = refl
 own-counter-none ws (Flag k) = refl
@@ -145,7 +148,7 @@ own-counter-none ws (Nand i j) = refl
 own-counter-none ws (Reach i j w) = refl
 own-counter-none ws (Later i d) = refl
 
-own-delays-none : (ws : List Wire) (i : Instruction) → ownDelays ws i [] ≡ replicate (rowOf i .distance) false
+own-delays-none : (ws : List Wire) (i : Instruction) → ownDelays ws i [] ≡ replicate (distanceOf i) false
 own-delays-none ws One = refl
 own-delays-none ws (Flag k) = refl
 own-delays-none ws (Nand i j) = refl

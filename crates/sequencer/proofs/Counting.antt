@@ -11,15 +11,16 @@ use lib.Seq.{take-suc, take-all, take-append-le, take-append-seam, getD-append-s
 use Rattle.reading.specs.Each.{Each}
 use Rattle.reading.specs.Limits.{limits}
 use Rattle.sequencer.specs.Code.{Instruction, One, Code}
-use Rattle.sequencer.specs.Loading.{rowOf, reachesIn, distanceIn, countsOf}
+use Rattle.sequencer.specs.Loading.{reachOf, distanceOf, reachesIn, distanceIn, countsOf}
+use Rattle.sequencer.specs.Rows.{rowOf}
 use Rattle.sequencer.specs.Good.{Within, Fine, Good}
 
-pub reaches-more : (is : Code) (i : Instruction) → reachesIn (is ++ i ∷ []) ≡ reachesIn is + rowOf i .reach
+pub reaches-more : (is : Code) (i : Instruction) → reachesIn (is ++ i ∷ []) ≡ reachesIn is + reachOf i
 unfolding reachesIn
 reaches-more [] i = omega arith
 reaches-more (j ∷ is) i = omega (arith, reaches-more is i)
 
-pub distance-more : (is : Code) (i : Instruction) → distanceIn (is ++ i ∷ []) ≡ distanceIn is + rowOf i .distance
+pub distance-more : (is : Code) (i : Instruction) → distanceIn (is ++ i ∷ []) ≡ distanceIn is + distanceOf i
 unfolding distanceIn
 distance-more [] i = omega arith
 distance-more (j ∷ is) i = omega (arith, distance-more is i)
@@ -56,10 +57,10 @@ pub good-delays : (code : Code) → Good code → distanceIn code ≤ limits .de
 unfolding countsOf
 good-delays code g = good-within code g .distance
 
-pub good-lines : (code : Code) → Good code → Each (λ i. rowOf i .later ≤ rowOf i .distance) code
+pub good-lines : (code : Code) → Good code → Each (λ i. rowOf i .later ≤ distanceOf i) code
 good-lines code g = go code (λ n h. g n h .some)
   where
-    go : (is : Code) → ((n : ℕ) → n < length is → rowOf (getD is n One) .later ≤ rowOf (getD is n One) .distance) → Each (λ i. rowOf i .later ≤ rowOf i .distance) is
+    go : (is : Code) → ((n : ℕ) → n < length is → rowOf (getD is n One) .later ≤ distanceOf (getD is n One)) → Each (λ i. rowOf i .later ≤ distanceOf i) is
     go [] f = tt
     go (i ∷ is) f = (f 0 (omega arith), go is (λ n h. f (suc n) (omega arith)))
 

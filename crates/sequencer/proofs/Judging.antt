@@ -1,39 +1,114 @@
--- An instruction that is not refused has passed each test: of the choices in turn between a refusal and the rest, none took the refusal.
-use mathlib.Core.Path.{_≡_}
+-- Judging an instruction by its row is judging it by document 01's words, test by test; and an instruction that is not refused has passed each test: of the choices in turn
+-- between a refusal and the rest, none took the refusal.
+use mathlib.Core.Path.{_≡_, refl}
+use mathlib.Core.Bool.{false, _||_, or-false}
 use mathlib.Core.List.{_∷_, [], _++_}
-use Prim.Native.Nat.{ℕ}
+use mathlib.Core.Logic.{by-cases}
+use Prim.Native.Nat.{ℕ, zero, suc, _+_, max}
+use native.Mathlib.Decide.{decLt}
 use native.Mathlib.Omega.{arith}
-use borrow.Author.Tests.{ltb-false}
-use lib.Dec.{ltb}
+use borrow.Author.Tests.{ltb-false, lt-ltb, le-ltb, le-leb, lt-leb, ne-eqb}
+use lib.Dec.{eqb, leb, ltb}
 use lib.ListN.{length-append}
 use Rattle.reading.specs.Limits.{limits}
 use Rattle.reading.specs.declared.refusal.Refusal.{Refusal}
 use Rattle.reading.proofs.Choices.{else-taken, neither}
-use Rattle.sequencer.specs.Code.{Instruction, Code}
-use Rattle.sequencer.specs.Loading.{rowOf, judgeOf, badWidth, tooLarge, countsOf, countedOf}
+use Rattle.sequencer.specs.Code.{Instruction, One, Flag, Nand, Reach, Later, Code}
+use Rattle.sequencer.specs.Good.{Within, Fine}
+use Rattle.sequencer.specs.Loading.{flagTooLarge, notEarlier, badWidth, reachOf, distanceOf, judgeOf, tooLarge, countsOf, countedOf}
+use Rattle.sequencer.specs.Rows.{rowOf, badRow, countedRow, judgeRow}
 use Rattle.sequencer.specs.declared.judge.Counts.{Counts}
 use Rattle.sequencer.specs.declared.judge.Judged.{Judged}
-use Rattle.sequencer.specs.Good.{Within, Fine}
 use Rattle.sequencer.proofs.Counting.{reaches-more, distance-more}
+
+-- The columns of a row
+
+flag-column : (i : Instruction) → ltb (limits .flag) (rowOf i .flag) ≡ flagTooLarge i
+flag-column One = refl
+flag-column (Flag k) = refl
+flag-column (Nand i j) = refl
+flag-column (Reach i j w) = refl
+flag-column (Later i d) = refl
+
+none-needed : (n : ℕ) → ltb n 0 ≡ false
+none-needed n = le-ltb n 0 (omega arith)
+
+one-needed : (n i : ℕ) → ltb n (i + 1) ≡ leb n i
+one-needed n i =
+    by-cases (decLt i n)
+    (λ h. rw (le-ltb n (i + 1) (omega arith), lt-leb n i h))
+    (λ h. rw (lt-ltb n (i + 1) (omega arith), le-leb n i (omega arith)))
+
+both-needed : (n i j : ℕ) → ltb n (max i j + 1) ≡ leb n i || leb n j
+both-needed n i j =
+    by-cases (decLt i n)
+    (λ h.
+    by-cases (decLt j n)
+    (λ k. rw (le-ltb n (max i j + 1) (omega arith), lt-leb n i h, lt-leb n j k))
+    (λ k. rw (lt-ltb n (max i j + 1) (omega arith), lt-leb n i h, le-leb n j (omega arith))))
+    (λ h. rw (lt-ltb n (max i j + 1) (omega arith), le-leb n i (omega arith)))
+
+needs-column : (n : ℕ) (i : Instruction) → ltb n (rowOf i .needs) ≡ notEarlier n i
+needs-column n One = none-needed n
+needs-column n (Flag k) = none-needed n
+needs-column n (Nand i j) = both-needed n i j
+needs-column n (Reach i j w) = both-needed n i j
+needs-column n (Later i d) = one-needed n i
+
+no-distance : (d : ℕ) → ltb d 1 ≡ eqb d 0
+no-distance zero = refl
+no-distance (suc d) = rw (le-ltb (suc d) 1 (omega arith), ne-eqb (suc d) 0 (omega arith))
+
+width-column : (i : Instruction) → badRow (rowOf i) ≡ badWidth i
+unfolding badRow
+width-column One = refl
+width-column (Flag k) = refl
+width-column (Nand i j) = refl
+width-column (Reach i j w) = or-false (ltb (limits .width) w)
+width-column (Later i d) = rw (no-distance d)
+
+reach-column : (i : Instruction) → rowOf i .reach ≡ reachOf i
+reach-column One = refl
+reach-column (Flag k) = refl
+reach-column (Nand i j) = refl
+reach-column (Reach i j w) = refl
+reach-column (Later i d) = refl
+
+distance-column : (i : Instruction) → rowOf i .distance ≡ distanceOf i
+distance-column One = refl
+distance-column (Flag k) = refl
+distance-column (Nand i j) = refl
+distance-column (Reach i j w) = refl
+distance-column (Later i d) = refl
+
+counted-row : (c : Counts) (i : Instruction) → countedRow c (rowOf i) ≡ countedOf c i
+unfolding countedRow countedOf
+counted-row c i = rw (reach-column i, distance-column i)
+
+pub judged-row : (c : Counts) (at : ℕ) (i : Instruction) → judgeRow c at (rowOf i) ≡ judgeOf c at i
+unfolding judgeRow judgeOf
+judged-row c at i = rw (flag-column i, needs-column (c .instructions) i, width-column i, counted-row c i)
+
+-- What is passed
 
 apart : {r : Refusal} {d : Counts} → Judged.Refused r ≡ Judged.Next d → ⊥
 apart e = let z : _≡_ {A = ℕ} 0 1 = cc in omega arith
 
 -- the counts with one instruction more are those of one instruction more
-pub counts-more : (is : Code) (i : Instruction) → countedOf (countsOf is) (rowOf i) ≡ countsOf (is ++ i ∷ [])
+counts-more : (is : Code) (i : Instruction) → countedOf (countsOf is) i ≡ countsOf (is ++ i ∷ [])
 unfolding countedOf countsOf
 counts-more is i = simp (length-append, reaches-more, distance-more)
 
 -- an instruction that is judged and not refused is fine, and with it the counts are within the limits
-pub passed : (is : Code) (at : ℕ) (i : Instruction) (d : Counts) → judgeOf (countsOf is) at (rowOf i) ≡ Judged.Next d → Fine is i × Within d × (d ≡ countsOf (is ++ i ∷ []))
-unfolding judgeOf badWidth tooLarge countsOf countedOf
+pub passed : (is : Code) (at : ℕ) (i : Instruction) (d : Counts) → judgeRow (countsOf is) at (rowOf i) ≡ Judged.Next d → Fine is i × Within d × (d ≡ countsOf (is ++ i ∷ []))
+unfolding judgeRow badRow tooLarge countsOf countedOf
 passed is at i d e =
     let row = rowOf i in
-    let next = countedOf (countsOf is) row in
+    let next = countedOf (countsOf is) i in
     let (flag, past5) = else-taken (ltb (limits .flag) (row .flag)) apart e in
     let (earlier, past10) = else-taken (ltb (countsOf is .instructions) (row .needs)) apart past5 in
-    let (width, past11) = else-taken (badWidth row) apart past10 in
-    let (large, next-is) = else-taken (tooLarge next) apart past11 in
+    let (width, past11) = else-taken (badRow row) apart past10 in
+    let (large, next-is) = else-taken (tooLarge next) apart (rw (counted-row (countsOf is) i) at past11) in
     let own : d ≡ next = cc in
     let (wide, distances) = neither (ltb (limits .width) (row .width)) _ width in
     let (some, far) = neither (ltb (row .distance) (row .later)) (ltb (limits .distance) (row .distance)) distances in
@@ -43,8 +118,8 @@ passed is at i d e =
         flag = ltb-false _ _ flag;
         earlier = ltb-false _ _ earlier;
         width = ltb-false _ _ wide;
-        some = ltb-false _ _ some;
-        near = ltb-false _ _ far;
+        some = rw (← distance-column i) (ltb-false _ _ some);
+        near = rw (← distance-column i) (ltb-false _ _ far);
         instructions = ltb-false _ _ many;
         counters = ltb-false _ _ reaches;
         delays = ltb-false _ _ distance;

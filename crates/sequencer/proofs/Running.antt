@@ -16,11 +16,12 @@ use Rattle.reading.specs.declared.refusal.Refusal.{Refusal}
 use Rattle.sequencer.specs.Bits.{output}
 use Rattle.sequencer.specs.Code.{Code}
 use Rattle.sequencer.specs.Loading.{readCode, codeOf}
-use Rattle.sequencer.specs.Registers.{freshRegisters, start, executed, over, registersAfter}
-use Rattle.sequencer.specs.Running.{byteOf, verdicts, badClip, ranOf, bufferAfter}
+use Rattle.sequencer.specs.Registers.{freshRegisters, start, executed}
+use Rattle.sequencer.specs.Running.{byteOf, verdicts, badClip, ranOf, bufferAfter, over}
 use Rattle.sequencer.specs.declared.registers.Registers.{Registers}
 use Rattle.sequencer.specs.declared.run.Ran.{Ran}
 use Rattle.sequencer.specs.Programs.{codeIn, Fits, Leaves, Loads}
+use Rattle.sequencer.specs.After.{registersAfter}
 use Rattle.sequencer.proofs.Accepted.{Ready}
 use Rattle.sequencer.proofs.After.{after-none, after-registers, after-output}
 use Rattle.sequencer.proofs.Counting.{good-counters, good-delays, good-lines}
@@ -101,20 +102,20 @@ module _ (numbers : List ℕ) (n : ℕ) (clip out₀ : List ℕ) (f : Loads numb
 -- The run as a whole: what is answered and written, by what its tests tell
 
 module _ (bytes numbers : List ℕ) (n : ℕ) (clip out : List ℕ) (a : Ready bytes numbers n) where
-  pub ran-bad : badClip (length clip) ≡ true → Ran.Refused Refusal.BadClip ≡ ranOf (readCode bytes) clip out
-  ran-bad bad = rw (a .is, bad)
+  module _ (bad : Bool) (test : bad ≡ badClip (length clip)) where
+    pub ran-bad : bad ≡ true → Ran.Refused Refusal.BadClip ≡ ranOf (readCode bytes) clip out
+    ran-bad e = rw (a .is, ← test, e)
 
-  module _ (fit : badClip (length clip) ≡ false) where
-    pub ran-short : ltb (length out) (length clip) ≡ true → Ran.Refused Refusal.ShortOutput ≡ ranOf (readCode bytes) clip out
-    ran-short short = rw (a .is, fit, short)
+    pub ran-short : bad ≡ false → ltb (length out) (length clip) ≡ true → Ran.Refused Refusal.ShortOutput ≡ ranOf (readCode bytes) clip out
+    ran-short e short = rw (a .is, ← test, e, short)
 
-    module _ (room : ltb (length out) (length clip) ≡ false) where
+    module _ (fit : bad ≡ false) (room : ltb (length out) (length clip) ≡ false) where
       pub ready-loads : Loads numbers n clip out
       ready-loads =
           record { sound = a .sound; room = ltb-false (length out) (length clip) room }
 
       pub ran-done : Ran.Done ≡ ranOf (readCode bytes) clip out
-      ran-done = rw (a .is, fit, room)
+      ran-done = rw (a .is, ← test, fit, room)
 
       pub ran-all : (out′ : List ℕ) → out′ ≡ over (verdicts (codeIn numbers n) clip) out → out′ ≡ bufferAfter Ran.Done (codeOf (readCode bytes)) clip out
       ran-all out′ e = rw (a .is, ← a .own) e

@@ -7,11 +7,11 @@ use Rattle.reading.specs.Items.{itemAt, numbersFrom, look, instructionCodes}
 use Rattle.reading.specs.Numbers.{numberAt}
 use Rattle.sequencer.specs.Bits.{next, counter, later, wireOf, wiresFrom, output}
 use Rattle.sequencer.specs.Code.{instructionOf}
-use Rattle.sequencer.specs.Loading.{reachesIn, distanceIn, countsOf, countedOf, badWidth, tooLarge, judgeOf}
+use Rattle.sequencer.specs.Loading.{reachesIn, distanceIn, countsOf, countedOf, tooLarge, judgeOf}
 use Rattle.sequencer.specs.Running.{verdicts, badClip}
 use Rattle.sequencer.specs.Samples.{Right, samples}
 
 pub samples-right : Each Right samples
-unfolding samples walked inTurn itemAt numbersFrom look instructionCodes numberAt instructionOf judgeOf countsOf countedOf reachesIn distanceIn badWidth tooLarge verdicts badClip output wiresFrom wireOf counter next later hasFlag
+unfolding samples walked inTurn itemAt numbersFrom look instructionCodes numberAt instructionOf judgeOf countsOf countedOf reachesIn distanceIn tooLarge verdicts badClip output wiresFrom wireOf counter next later hasFlag
 samples-right =
     (refl, ((refl, refl), ((refl, refl), ((refl, refl), ((refl, refl), ((refl, refl), (refl, (refl, (refl, (refl, (refl, (refl, (refl, (refl, (refl, (refl, tt))))))))))))))))

@@ -55,9 +55,7 @@ module _ {A : Type 0} (xs : List A) (at : ℕ) where
       drop-append-le (at + 1) (take (p + 1) xs) (own ∷ []) (omega (arith, length-take (p + 1) xs)) in
       rw (next-moved p from in-p z, set-moved p from in-p own, e, q) (simp append-assoc)
 
-  pub moved-all : (d last : ℕ) → last + 1 ≡ at + d → 1 ≤ d → at + d ≤ length xs → (v : A) → set (moved xs at last) last v ≡ take at xs ++ (drop (at + 1) (take (at + d) xs) ++ v ∷ drop (at + d) xs)
-  moved-all d last e some inside v = rw (← e) (set-moved last (omega arith) (omega arith) v)
-
+-- once the last element is stored, the line has moved on
 pub shifted-moved : (xs : List Bool) (at d last : ℕ) → last + 1 ≡ at + d → 1 ≤ d → at + d ≤ length xs → (v : Bool) → set (moved xs at last) last v ≡ shifted xs at d v
 unfolding shifted
-shifted-moved xs at d last e some inside v = moved-all xs at d last e some inside v
+shifted-moved xs at d last e some inside v = rw (← e) (set-moved xs at last (omega arith) (omega arith) v)

@@ -14,10 +14,12 @@ use Rattle.reading.specs.Frames.{hasFlag}
 use Rattle.reading.specs.Limits.{limits}
 use Rattle.sequencer.specs.Bits.{Counter, none, count, next, isOn}
 use Rattle.sequencer.specs.Code.{Instruction, One, Flag, Nand, Reach, Later, Code}
-use Rattle.sequencer.specs.Loading.{rowOf, reachesIn, distanceIn}
-use Rattle.sequencer.specs.Registers.{Working, start, bit, shifted, execute, executed, counterOf, kept, over}
+use Rattle.sequencer.specs.Loading.{reachOf, distanceOf, reachesIn, distanceIn}
+use Rattle.sequencer.specs.Rows.{rowOf}
+use Rattle.sequencer.specs.Registers.{Working, start, bit, shifted, execute, executed, counterOf, kept}
 use Rattle.sequencer.specs.declared.registers.Registers.{Registers}
 use Rattle.sequencer.specs.Programs.{instructionAt, codeIn, Fits, Leaves}
+use Rattle.sequencer.specs.Running.{over}
 use Rattle.sequencer.proofs.Counting.{reaches-more, distance-more}
 use Rattle.sequencer.proofs.Flat.{code-length, fine-at}
 use Rattle.sequencer.proofs.Instructions.{is-one, is-flag, is-nand, is-reach, is-later}
@@ -124,9 +126,9 @@ module _ (numbers : List ℕ) (frame : ℕ) (r : Registers) (bits₀ : List Bool
         pub flag : rowOf i .flag ≤ limits .flag
         pub earlier : rowOf i .needs ≤ n
         pub width : rowOf i .width ≤ limits .width
-        pub some : rowOf i .later ≤ rowOf i .distance
-        pub own-reach : used + rowOf i .reach ≤ length counters
-        pub own-line : taken + rowOf i .distance ≤ length delays
+        pub some : rowOf i .later ≤ distanceOf i
+        pub own-reach : used + reachOf i ≤ length counters
+        pub own-line : taken + distanceOf i ≤ length delays
         pub own-place : n < length bits
 
       pub here : Here
@@ -145,7 +147,7 @@ module _ (numbers : List ℕ) (frame : ℕ) (r : Registers) (bits₀ : List Bool
       -- What it leads to, whichever it is
       more : (b : Bool) (used′ taken′ : ℕ) (counters′ : List ℕ) (delays′ : List Bool)
           → execute frame (done n) i ≡ record { bits = done n .bits ++ b ∷ []; counters = counters′; used = used′; delays = delays′; taken = taken′ }
-          → used′ ≡ used + rowOf i .reach → taken′ ≡ taken + rowOf i .distance → length counters′ ≡ length counters → length delays′ ≡ length delays
+          → used′ ≡ used + reachOf i → taken′ ≡ taken + distanceOf i → length counters′ ≡ length counters → length delays′ ≡ length delays
           → Walk (n + 1) used′ taken′ counters′ delays′ (set bits n b)
       unfolding codeIn
       more b used′ taken′ counters′ delays′ x u t c d =
@@ -193,13 +195,14 @@ module _ (numbers : List ℕ) (frame : ℕ) (r : Registers) (bits₀ : List Bool
             let on : not (eqb m 0) ≡ isOn q = rw is (is-on q) in
             more k f h (Reach i j width) e (not (eqb m 0)) (used + 1) taken (set counters used m) delays (rw (on, is, ← w .own-counters, ← w .own-used, ← w .own-delays, ← w .own-taken)) (omega arith) (omega arith) (length-set counters used m) refl
 
-        pub walk-later : instructionAt numbers n ≡ Later i j → (oldest : Bool) → oldest ≡ getD delays taken false → (d : ℕ) → d ≡ j → Walk (n + 1) used (taken + j) counters (shifted delays taken d (getD (set bits n oldest) i false)) (set bits n oldest)
+        pub walk-later : instructionAt numbers n ≡ Later i j → (p d : ℕ) → p ≡ taken → d ≡ j → let oldest = getD delays p false in Walk (n + 1) used (taken + j) counters (shifted delays taken d (getD (set bits n oldest) i false)) (set bits n oldest)
         unfolding execute
-        walk-later e oldest first d own =
+        walk-later e p d first own =
             let t = here k f h (Later i j) e in
+            let oldest = getD delays taken false in
             let is : getD (set bits n oldest) i false ≡ bit (done n) i = getD-set-other bits n i oldest false (omega (arith, t .earlier)) ∙ bit-read i (omega (arith, t .earlier)) in
-            rw own
-            (more k f h (Later i j) e oldest used (taken + j) counters _ (rw (is, first, ← w .own-counters, ← w .own-used, ← w .own-delays, ← w .own-taken)) (omega arith) (omega arith) refl (shifted-length delays taken j _ (omega (arith, t .some)) (omega (arith, t .own-line))))
+            rw (own, first)
+            (more k f h (Later i j) e oldest used (taken + j) counters _ (rw (is, ← w .own-counters, ← w .own-used, ← w .own-delays, ← w .own-taken)) (omega arith) (omega arith) refl (shifted-length delays taken j _ (omega (arith, t .some)) (omega (arith, t .own-line))))
 
   -- Once all instructions are done
   pub walk-all : {n used taken : ℕ} {counters : List ℕ} {delays bits : List Bool} → Walk n used taken counters delays bits → (k : ℕ) → n ≡ k → 1 ≤ k → Leaves (codeIn numbers k) (executed frame (codeIn numbers k) (start r)) bits₀ counters delays bits (getD bits (k - 1) false)

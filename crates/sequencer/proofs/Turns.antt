@@ -1,6 +1,6 @@
 -- The walk over code turn by turn. `Turn` says where it stands: the instructions read are good and counted, the array holds their numbers, and the bytes from here on,
 -- after these instructions, give what all the bytes give. Each way out of a turn is a law: one instruction more, the end, or a refusal.
-use mathlib.Core.Path.{_≡_, refl, sym, ap, _∙_}
+use mathlib.Core.Path.{_≡_, refl, sym, ap}
 use mathlib.Core.List.{List, [], _∷_, _++_}
 use Prim.Native.Nat.{ℕ, _+_, _*_, _≤_}
 use native.Mathlib.Omega.{arith}
@@ -15,7 +15,8 @@ use Rattle.reading.specs.declared.refusal.Refusal.{Refusal}
 use Rattle.reading.proofs.Bytes.{AllBytes, item-back}
 use Rattle.reading.proofs.InTurn as in-turn
 use Rattle.sequencer.specs.Code.{Code, instructionOf}
-use Rattle.sequencer.specs.Loading.{rowOf, judgeOf, countsOf, verdictOf, codeKind, readCode, programOf, flat, reachesIn, distanceIn}
+use Rattle.sequencer.specs.Rows.{rowOf, judgeRow}
+use Rattle.sequencer.specs.Loading.{countsOf, verdictOf, codeKind, readCode, programOf, flat, reachesIn, distanceIn}
 use Rattle.sequencer.specs.declared.judge.Counts.{Counts}
 use Rattle.sequencer.specs.declared.judge.Judged.{Judged}
 use Rattle.sequencer.specs.declared.judge.Row.{Row}
@@ -23,7 +24,7 @@ use Rattle.sequencer.specs.declared.load.Loaded.{Loaded}
 use Rattle.sequencer.specs.Good.{Within, Fine}
 use Rattle.sequencer.proofs.Flat.{flat-more, flat-length, four-more}
 use Rattle.sequencer.proofs.Instructions.{four-numbers}
-use Rattle.sequencer.proofs.Judging.{passed}
+use Rattle.sequencer.proofs.Judging.{judged-row, passed}
 
 pub record Turn (bytes numbers : List ℕ) (counts : Counts) (at : ℕ) : Type 0 where
   pub code : Code
@@ -52,22 +53,22 @@ module _ (bytes numbers : List ℕ) (counts : Counts) (at : ℕ) (t : Turn bytes
   turn-refused r e = in-turn.turn-refused codeKind bytes at (t .code) (t .turn) r e
 
   module _ (code i j k next : ℕ) (read : Read.Item code i j k next ≡ itemAt Table.Code bytes at) (row : Row) (own-row : row ≡ rowOf (instructionOf code i j k)) where
-    pub turn-judged : (r : Refusal) → Judged.Refused r ≡ judgeOf counts at row → Walked.refused r ≡ readCode bytes
+    pub turn-judged : (r : Refusal) → Judged.Refused r ≡ judgeRow counts at row → Walked.refused r ≡ readCode bytes
     turn-judged r e =
         in-turn.turn-judged codeKind bytes at (t .code) (t .turn) code i j k next read (instructionOf code i j k) refl r
-        (ap verdictOf (rw (own-row, t .own) at e))
+        (ap verdictOf (rw (own-row, t .own, judged-row) at e))
 
     -- an instruction that is judged and not refused, wherever it stands, has room
-    ready : (place : ℕ) (d : Counts) → Judged.Next d ≡ judgeOf counts place row → Fine (t .code) (instructionOf code i j k) × Within d × (d ≡ countsOf (t .code ++ instructionOf code i j k ∷ []))
+    ready : (place : ℕ) (d : Counts) → Judged.Next d ≡ judgeRow counts place row → Fine (t .code) (instructionOf code i j k) × Within d × (d ≡ countsOf (t .code ++ instructionOf code i j k ∷ []))
     ready place d e = passed (t .code) place (instructionOf code i j k) d (sym (rw (own-row, t .own) at e))
 
-    pub turn-room : (place : ℕ) (d : Counts) → Judged.Next d ≡ judgeOf counts place row → counts .instructions + 1 ≤ limits .instructions
+    pub turn-room : (place : ℕ) (d : Counts) → Judged.Next d ≡ judgeRow counts place row → counts .instructions + 1 ≤ limits .instructions
     unfolding countsOf
     turn-room place d e = rw (t .own) (ready place d e .0 .instructions)
 
-    pub turn-more : (d : Counts) → Judged.Next d ≡ judgeOf counts at row → AllBytes bytes → (after : List ℕ) → let n = counts .instructions in after ≡ set (set (set (set numbers (4 * n) code) (4 * n + 1) i) (4 * n + 2) j) (4 * n + 3) k → Turn bytes after d next
+    pub turn-more : (d : Counts) → Judged.Next d ≡ judgeRow counts at row → AllBytes bytes → (v w x y : ℕ) → (v ≡ code) × (w ≡ i) × (x ≡ j) × (y ≡ k) → let n = counts .instructions in Turn bytes (set (set (set (set numbers (4 * n) v) (4 * n + 1) w) (4 * n + 2) x) (4 * n + 3) y) d next
     unfolding countsOf
-    turn-more d e small after stored =
+    turn-more d e small v w x y own =
         let (f, within, counted) = ready at d e in
         let instruction = instructionOf code i j k in
         let (fits, stands) = item-back Table.Code bytes at code i j k next small (sym read) in
@@ -75,8 +76,8 @@ module _ (bytes numbers : List ℕ) (counts : Counts) (at : ℕ) (t : Turn bytes
         let array = rw (← t .array, ← here, ← four-numbers code (fits .known) i j k fits, ← flat-more) at (four-more (4 * limits .instructions) (flat (t .code)) code i j k (omega (arith, flat-length (t .code)))) in
         record {
           code = t .code ++ instruction ∷ [];
-          turn = in-turn.turn-more codeKind bytes at (t .code) (t .turn) code i j k next read instruction refl (ap verdictOf (rw (own-row, t .own) at e)) (in-turn.forward Table.Code bytes at code i j k next small read);
+          turn = in-turn.turn-more codeKind bytes at (t .code) (t .turn) code i j k next read instruction refl (ap verdictOf (rw (own-row, t .own, judged-row) at e)) (in-turn.forward Table.Code bytes at code i j k next small read);
           own = counted;
           within = within;
-          array = stored ∙ array;
+          array = rw (own .0, own .1, own .2, own .3) array;
         }

@@ -42,7 +42,7 @@ counter w i j (x ∷ c) = next w (i (x ∷ c)) (j (x ∷ c)) (counter w i j c)
 unfoldable pub later : ℕ → Wire → Wire
 later d i c = cond (ltb d (length c)) (i (drop d c)) false
 
--- The bit of an instruction that has earlier ones before it, by its number; a number that no instruction has is never 1
+-- The bit of an earlier instruction, by its number; that of a number that no instruction has is never 1
 abbrev pub wire : List Wire → ℕ → Wire
 wire ws i = getD ws i (λ c. false)
 

@@ -4,10 +4,10 @@ use mathlib.Core.Bool.{Bool, true, false, not, _&&_}
 use mathlib.Core.List.{List, [], _∷_, _++_}
 use Prim.Native.Nat.{ℕ, zero, suc, _+_, _-_}
 use lib.ListN.{length, getD, take, drop, set, replicate}
-use Rattle.reading.specs.Frames.{Clip, hasFlag}
+use Rattle.reading.specs.Frames.{hasFlag}
 use Rattle.reading.specs.Limits.{limits}
 use Rattle.sequencer.specs.Code.{Instruction, One, Flag, Nand, Reach, Later, Code}
-use Rattle.sequencer.specs.Bits.{Wire, Counter, none, count, next, isOn, counter, later, wire, wireOf}
+use Rattle.sequencer.specs.Bits.{Counter, none, count, next, isOn}
 use Rattle.sequencer.specs.declared.registers.Registers.{Registers}
 
 -- The counter that a number keeps
@@ -90,51 +90,3 @@ registersOf s = record { counters = s .counters; delays = s .delays }
 -- The output of a step: the last instruction's bit
 abbrev pub outputOf : Code → Working → Bool
 outputOf code s = bit s (length code - 1)
-
--- The last d bits of a wire, the oldest first
-unfoldable pub window : ℕ → Wire → Clip → List Bool
-window zero i c = []
-window (suc d) i c = later d i c ∷ window d i c
-
--- The counter of an instruction after a clip, by the bits of the instructions before it: REACH has one
-abbrev pub ownCounter : List Wire → Instruction → Clip → List ℕ
-ownCounter ws One c = []
-ownCounter ws (Flag k) c = []
-ownCounter ws (Nand i j) c = []
-ownCounter ws (Reach i j w) c = kept (counter w (wire ws i) (wire ws j) c) ∷ []
-ownCounter ws (Later i d) c = []
-
--- The delay bits of an instruction after a clip: LATER has d
-abbrev pub ownDelays : List Wire → Instruction → Clip → List Bool
-ownDelays ws One c = []
-ownDelays ws (Flag k) c = []
-ownDelays ws (Nand i j) c = []
-ownDelays ws (Reach i j w) c = []
-ownDelays ws (Later i d) c = window d (wire ws i) c
-
--- The counters of instructions after a clip, in code order
-unfoldable pub countersOf : List Wire → Code → Clip → List ℕ
-countersOf ws [] c = []
-countersOf ws (i ∷ is) c = ownCounter ws i c ++ countersOf (ws ++ wireOf ws i ∷ []) is c
-
--- The delay bits of instructions after a clip, in code order
-unfoldable pub delaysOf : List Wire → Code → Clip → List Bool
-delaysOf ws [] c = []
-delaysOf ws (i ∷ is) c = ownDelays ws i c ++ delaysOf (ws ++ wireOf ws i ∷ []) is c
-
--- Registers of which the first hold this, and the rest stay as they are
-abbrev pub over : {A : Type 0} → List A → List A → List A
-over own all = own ++ drop (length own) all
-
--- What the registers hold after a clip, by what the bits mean
-unfoldable pub registersAfter : Code → Clip → Registers
-registersAfter code c =
-    record {
-      counters = over (countersOf [] code c) (freshRegisters .counters);
-      delays = over (delaysOf [] code c) (freshRegisters .delays);
-    }
-
--- The registers after a clip, step by step from fresh ones
-unfoldable pub stepsOver : Code → Clip → Registers
-stepsOver code [] = freshRegisters
-stepsOver code (x ∷ c) = registersOf (executed x code (start (stepsOver code c)))

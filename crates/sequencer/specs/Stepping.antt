@@ -1,4 +1,4 @@
--- One frame through code that is loaded, and the step. Document 01: "The sequencer takes one frame at a time .. and hands its registers back", "A step refuses code as the
+-- The step. Document 01: "The sequencer takes one frame at a time .. and hands its registers back", "A step refuses code as the
 -- run does and then hands the registers back unchanged."
 use Prim.Native.Nat.{ℕ}
 use Rattle.reading.specs.InTurn.{Walked, items, refused}

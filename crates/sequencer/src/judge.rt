@@ -2,8 +2,9 @@
 ghost use mathlib.Core.Path.{_≡_};
 ghost use Prim.Native.Nat.{_+_, max};
 ghost use Rattle.sequencer.specs.Code.{instructionOf};
-ghost use Rattle.sequencer.specs.Loading.{rowOf, badWidth, tooLarge, countedOf, judgeOf};
 ghost use Rattle.sequencer.specs.Good.{Within};
+ghost use Rattle.sequencer.specs.Loading.{tooLarge};
+ghost use Rattle.sequencer.specs.Rows.{rowOf, badRow, countedRow, judgeRow};
 use reading::limits::COUNTERS;
 use reading::limits::DELAYS;
 use reading::limits::MOST_DISTANCE;
@@ -74,7 +75,7 @@ pub(crate) fn row_of(code: u8, first: u16, second: u16, third: u16) -> Row
 
 // Whether a width or a distance is out of range: w > 255, d = 0 or d > 255.
 fn bad_width(row: Row) -> bool
-    ensures { λ r. ⌜ r ≡ badWidth row ⌝ }
+    ensures { λ r. ⌜ r ≡ badRow row ⌝ }
 {
     if MOST_WIDTH < row.width {
         return true;
@@ -101,7 +102,7 @@ fn too_large(counts: Counts) -> bool
 // The counts with one instruction more.
 fn counted(counts: Counts, row: Row) -> Counts
     requires { ⌜ Within counts ⌝ }
-    ensures { λ r. ⌜ r ≡ countedOf counts row ⌝ }
+    ensures { λ r. ⌜ r ≡ countedRow counts row ⌝ }
 {
     Counts {
         instructions: counts.instructions + 1,
@@ -113,7 +114,7 @@ fn counted(counts: Counts, row: Row) -> Counts
 // Judges the instruction at a place, after instructions that are counted.
 pub(crate) fn judge(counts: Counts, at: usize, row: Row) -> Judged
     requires { ⌜ Within counts ⌝ }
-    ensures { λ r. ⌜ r ≡ judgeOf counts at row ⌝ }
+    ensures { λ r. ⌜ r ≡ judgeRow counts at row ⌝ }
 {
     if MOST_FLAG < row.flag {
         return Judged::Refused(Refusal::FlagTooLarge(at));

@@ -1,8 +1,7 @@
 // The run: code over a clip, from the last frame to the first, one byte for each frame.
 ghost use mathlib.Core.Path.{_≡_};
 ghost use Rattle.sequencer.specs.Loading.{readCode, codeOf};
-ghost use Rattle.sequencer.specs.Registers.{over};
-ghost use Rattle.sequencer.specs.Running.{badClip, byteOf, verdicts, ranOf, bufferAfter};
+ghost use Rattle.sequencer.specs.Running.{badClip, byteOf, verdicts, ranOf, bufferAfter, over};
 ghost use Rattle.sequencer.specs.Programs.{codeIn, Loads};
 use crate::load::Loaded;
 use crate::load::decode;

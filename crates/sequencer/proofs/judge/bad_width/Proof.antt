@@ -2,22 +2,22 @@
 use native.Mathlib.Omega.{arith}
 use Rattle.reading.specs.Limits.{limits}
 use borrow.Author.Tests.{lt-ltb, le-ltb}
-use Rattle.sequencer.specs.Loading.{badWidth}
+use Rattle.sequencer.specs.Rows.{badRow}
 use mathlib.Core.Bool.{or-true}
 use Rattle.sequencer.proofs.judge.bad_width.Statement.{statement}
 use Rattle.sequencer.proofs.judge.bad_width.Tie as tie
 
 returns : tie.Need-returns
-unfolding badWidth
+unfolding badRow
 returns c = rw (lt-ltb (limits .width) (c .before .before .args .row .width) (omega arith))
 
 returns-2 : tie.Need-returns-2
-unfolding badWidth
+unfolding badRow
 returns-2 c = let row = c .before .before .before .before .args .row in
     rw (lt-ltb (row .distance) (row .later) (omega arith), or-true)
 
 returns-3 : tie.Need-returns-3
-unfolding badWidth
+unfolding badRow
 returns-3 c = let row = c .before .before .before .before .before .args .row in
     rw (le-ltb (limits .width) (row .width) (omega arith), le-ltb (row .distance) (row .later) (omega arith))
 

@@ -1,6 +1,6 @@
 -- `counted` meets its contract: no sum is large, as the counts are within the limits.
 use mathlib.Core.Path.{refl}
-use Rattle.sequencer.specs.Loading.{countedOf}
+use Rattle.sequencer.specs.Rows.{countedRow}
 use borrow.Author.Needs.{needs}
 use Rattle.sequencer.proofs.judge.counted.Statement.{statement}
 use Rattle.sequencer.proofs.judge.counted.Tie as tie
@@ -21,7 +21,7 @@ add-t7 : tie.Need-add-t7
 add-t7 c = search needs
 
 returns : tie.Need-returns
-unfolding countedOf
+unfolding countedRow
 returns c = refl
 
 pub counted-spec : {M : Type 1} → statement M

@@ -5,18 +5,19 @@ use borrow.Author.Tests.{lt-ltb, le-ltb}
 use mathlib.Core.Path.{_≡_}
 use mathlib.Core.Bool.{cond}
 use Rattle.reading.specs.declared.refusal.Refusal.{Refusal}
-use Rattle.sequencer.specs.Loading.{judgeOf, tooLarge, countedOf}
+use Rattle.sequencer.specs.Loading.{tooLarge}
+use Rattle.sequencer.specs.Rows.{countedRow, judgeRow}
 use Rattle.sequencer.specs.declared.judge.Judged.{Judged}
 use borrow.Author.Needs.{needs}
 use Rattle.sequencer.proofs.judge.judge.Statement.{statement}
 use Rattle.sequencer.proofs.judge.judge.Tie as tie
 
 returns : tie.Need-returns
-unfolding judgeOf
+unfolding judgeRow
 returns c = rw (lt-ltb (limits .flag) (c .before .before .args .row .flag) (omega arith))
 
 returns-2 : tie.Need-returns-2
-unfolding judgeOf
+unfolding judgeRow
 returns-2 c = let a = c .before .before .before .before .before .args in
     rw (le-ltb (limits .flag) (a .row .flag) (omega arith), lt-ltb (a .counts .instructions) (a .row .needs) (omega arith))
 
@@ -26,10 +27,10 @@ bad-width-requires c κs = search needs
 -- past the first two tests the width decides, and then the counts
 widths : (c : tie.After-bad-width) →
     let a = c .before .before .before .before .before .before .args in
-    judgeOf (a .counts) (a .at) (a .row)
+    judgeRow (a .counts) (a .at) (a .row)
     ≡ cond (c .bad-width .result) (Judged.Refused (Refusal.BadWidth (a .at)))
-    (cond (tooLarge (countedOf (a .counts) (a .row))) (Judged.Refused (Refusal.CodeTooLarge (a .at))) (Judged.Next (countedOf (a .counts) (a .row))))
-unfolding judgeOf
+    (cond (tooLarge (countedRow (a .counts) (a .row))) (Judged.Refused (Refusal.CodeTooLarge (a .at))) (Judged.Next (countedRow (a .counts) (a .row))))
+unfolding judgeRow
 widths c =
     let a = c .before .before .before .before .before .before .args in
     rw (le-ltb (limits .flag) (a .row .flag) (omega arith), le-ltb (a .counts .instructions) (a .row .needs) (omega arith), ← (c .bad-width .ensures))

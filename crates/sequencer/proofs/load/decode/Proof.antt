@@ -10,7 +10,8 @@ use Rattle.reading.specs.declared.item.Read.{Read}
 use Rattle.reading.specs.declared.item.Table.{Table}
 use Rattle.reading.proofs.Bytes.{AllBytes}
 use Rattle.reading.proofs.InTurn.{forward, item-inside, none-refused}
-use Rattle.sequencer.specs.Loading.{judgeOf, codeKind, programOf}
+use Rattle.sequencer.specs.Loading.{codeKind, programOf}
+use Rattle.sequencer.specs.Rows.{judgeRow}
 use Rattle.sequencer.specs.declared.judge.Judged.{Judged}
 use Rattle.sequencer.proofs.Turns.{Turn, turn-first, turn-end, turn-refused, turn-judged, turn-room, turn-more}
 use Rattle.sequencer.proofs.load.decode.Statement.{statement}
@@ -60,7 +61,7 @@ enum-known-more : tie.Need-enum-known-more Inv-loop μ-loop
 enum-known-more c = search needs
 
 -- an instruction that is not refused has room
-is-next : (c : tie.After-more Inv-loop μ-loop) → Judged.Next (c .more .given .0 .0) ≡ judgeOf (c .before .before .before .before .before .before .before .before .loop .counts) (c .before .before .before .before .before .before .before .before .loop .at) (c .before .before .before .row-of .result)
+is-next : (c : tie.After-more Inv-loop μ-loop) → Judged.Next (c .more .given .0 .0) ≡ judgeRow (c .before .before .before .before .before .before .before .before .loop .counts) (c .before .before .before .before .before .before .before .before .loop .at) (c .before .before .before .row-of .result)
 is-next c = sym (c .more .given .1) ∙ c .before .before .judge .ensures
 
 room : (c : tie.After-more Inv-loop μ-loop) → c .before .before .before .before .before .before .before .before .loop .counts .instructions + 1 ≤ limits .instructions
@@ -113,7 +114,7 @@ loop-less c = let d = c .before .before .before .before .before .before .before 
 
 loop-again : tie.Need-loop-again Inv-loop μ-loop
 loop-again c = let d = c .before .before .before .before .before .before .before in
-    turn-more _ _ _ _ (c .before .before .before .before .before .before .before .before .before .before .loop .inv) _ _ _ _ _ (is-item d) _ (c .before .before .before .before .before .row-of .ensures) _ (is-next (c .before .before)) (all-bytes d) _ (cc)
+    turn-more _ _ _ _ (c .before .before .before .before .before .before .before .before .before .before .loop .inv) _ _ _ _ _ (is-item d) _ (c .before .before .before .before .before .row-of .ensures) _ (is-next (c .before .before)) (all-bytes d) _ _ _ _ (omega arith)
 
 enum-known-refusal : tie.Need-enum-known-refusal Inv-loop μ-loop
 enum-known-refusal c = search needs

@@ -205,7 +205,7 @@ loop-less-5 c = omega arith
 
 loop-again-5 : tie.Need-loop-again-5 Inv-loop μ-loop
 loop-again-5 c = let t = turn (c .before .before .before .before .before .before .before .before .before .before) _ (is-later-here (c .before .before .before .before .before .before)) in
-    (omega arith, rw (c .before .before .shift-in .ensures) (walk-later _ _ _ _ (c .before .before .before .before .before .before .before .before .before .before .before .loop .inv .1) _ (c .before .before .before .before .before .before .before .before .before .before .before .before .before .before .before .before .pre) (omega arith) _ _ (is-later-here (c .before .before .before .before .before .before)) _ (cc) _ (omega (arith, t .some))))
+    (omega arith, rw (c .before .before .shift-in .ensures) (walk-later _ _ _ _ (c .before .before .before .before .before .before .before .before .before .before .before .loop .inv .1) _ (c .before .before .before .before .before .before .before .before .before .before .before .before .before .before .before .before .pre) (omega arith) _ _ (is-later-here (c .before .before .before .before .before .before)) _ _ (omega arith) (omega (arith, t .some))))
 
 sub-result : tie.Need-sub-result Inv-loop μ-loop
 sub-result c = omega (arith, c .before .before .before .before .before .before .pre .sound .some)

@@ -1,13 +1,9 @@
 -- `run` meets its contract: the tests of code, clip and buffer are the definition's, in its order, and past them the frames are run.
 use native.Mathlib.Omega.{arith}
-use mathlib.Core.Path.{_≡_, refl, sym}
+use mathlib.Core.Path.{refl, sym}
 use Rattle.reading.proofs.Bytes.{AllBytes}
 use Rattle.sequencer.proofs.Accepted.{Ready, ready, not-ready}
 use Rattle.sequencer.proofs.Running.{ran-bad, ran-short, ready-loads, ran-done, ran-all, ran-refused}
-use lib.ListN.{length}
-use mathlib.Core.Bool.{true, false}
-use lib.Dec.{ltb}
-use Rattle.sequencer.specs.Running.{badClip}
 use borrow.Author.Needs.{needs}
 use Rattle.sequencer.proofs.run.run.Statement.{statement}
 use Rattle.sequencer.proofs.run.run.Tie as tie
@@ -28,23 +24,16 @@ bad-clip-requires : tie.Need-bad-clip-requires
 bad-clip-requires c κs = search needs
 
 returns : tie.Need-returns
-returns c = let bad : badClip (length (c .before .before .before .before .before .before .before .before .before .args .clip .now)) ≡ true = cc in
-    (ran-bad _ _ _ _ _ (is-ready (c .before .before .before)) bad, refl)
-
--- the clip can be run
-fit : (c : tie.Else1) → badClip (length (c .before .before .before .before .before .before .before .before .before .args .clip .now)) ≡ false
-fit c = cc
+returns c = (ran-bad _ _ _ _ _ (is-ready (c .before .before .before)) _ (c .before .bad-clip .ensures) (c .if1 .taken), refl)
 
 returns-2 : tie.Need-returns-2
-returns-2 c = let a = c .before .before .before .before .before .before .before .before .before .before .args in
-    let short : ltb (length (a .out .now)) (length (a .clip .now)) ≡ true = cc in
-    (ran-short _ _ _ _ _ (is-ready (c .before .before .before .before)) (fit (c .before)) short, refl)
+returns-2 c = (ran-short _ _ _ _ _ (is-ready (c .before .before .before .before)) _ (c .before .before .bad-clip .ensures) (c .before .if1 .left) (c .if2 .taken), refl)
 
 slice-aggregate-run-frames : tie.Need-slice-aggregate-run-frames
 slice-aggregate-run-frames c = search needs
 
 run-frames-requires : tie.Need-run-frames-requires
-run-frames-requires c κs = ready-loads _ _ _ _ _ (is-ready (c .before .before .before .before .before .before .before)) (fit (c .before .before .before .before)) (c .before .before .before .if2 .left)
+run-frames-requires c κs = ready-loads _ _ _ _ _ (is-ready (c .before .before .before .before .before .before .before)) _ (c .before .before .before .before .before .bad-clip .ensures) (c .before .before .before .before .if1 .left) (c .before .before .before .if2 .left)
 
 enum-known-loaded-2 : tie.Need-enum-known-loaded-2
 enum-known-loaded-2 c = search needs
@@ -54,9 +43,11 @@ same-length c = search needs
 
 returns-3 : tie.Need-returns-3
 returns-3 c = let a = is-ready (c .before .before .before .before .before .before .before .before .before .before) in
+    let test = c .before .before .before .before .before .before .before .before .bad-clip .ensures in
+    let fit = c .before .before .before .before .before .before .before .if1 .left in
     let room = c .before .before .before .before .before .before .if2 .left in (
-      ran-done _ _ _ _ _ a (fit (c .before .before .before .before .before .before .before)) room,
-      ran-all _ _ _ _ _ a (fit (c .before .before .before .before .before .before .before)) room _ (c .before .before .run-frames .ensures),
+      ran-done _ _ _ _ _ a _ test fit room,
+      ran-all _ _ _ _ _ a _ test fit room _ (c .before .before .run-frames .ensures),
     )
 
 returns-4 : tie.Need-returns-4
