@@ -121,13 +121,13 @@ pub record Numbered {A : Type 0} (kind : Kind A) (own : A → List ℕ) (item : 
   pub makes : kind .make code first second third ≡ item
   pub same : itemBytes (kind .table) code first second third ≡ own item
 
-module _ {A : Type 0} (kind : Kind A) (own : A → List ℕ) where
-  -- the bytes of one item more
-  bytes-more : (is : List A) (i : A) → bytesOfAll own (is ++ i ∷ []) ≡ bytesOfAll own is ++ own i
-  unfolding bytesOfAll
-  bytes-more [] i = rw append-nil
-  bytes-more (j ∷ is) i = rw (bytes-more is i, append-assoc)
+-- the bytes of items behind items
+pub bytes-append : {A : Type 0} (own : A → List ℕ) (is js : List A) → bytesOfAll own (is ++ js) ≡ bytesOfAll own is ++ bytesOfAll own js
+unfolding bytesOfAll
+bytes-append own [] js = refl
+bytes-append own (i ∷ is) js = rw (bytes-append own is js, append-assoc)
 
+module _ {A : Type 0} (kind : Kind A) (own : A → List ℕ) where
   module _ (P : List A → Type 0) (none : P []) (more : (is : List A) (at : ℕ) (i : A) → P is → kind .judge is at i ≡ fine → P (is ++ i ∷ [])) (same : (code i j k : ℕ) → numbersOf (kind .table) code < noCode → itemBytes (kind .table) code i j k ≡ own (kind .make code i j k)) where
     module _ (bytes : List ℕ) (small : AllBytes bytes) (js : List A) where
       -- the items so far have the property, and their bytes are those before the place
@@ -142,7 +142,7 @@ module _ {A : Type 0} (kind : Kind A) (own : A → List ℕ) where
           rw i at (let r : P is × (bytes ≡ bytesOfAll own is) = (s .holds, b) in r)
 
       from : (n at : ℕ) (is : List A) → So-far at is → length bytes - at ≤ n → inTurn kind n bytes at is ≡ items js → P js × (bytes ≡ bytesOfAll own js)
-      unfolding inTurn
+      unfolding inTurn bytesOfAll
       from zero at is s h e = at-end at is s (omega arith) e
       from (suc n) at is s h e =
           ⊎-elim
@@ -155,7 +155,7 @@ module _ {A : Type 0} (kind : Kind A) (own : A → List ℕ) where
           let t : So-far next (is ++ item ∷ []) =
           record {
             holds = more is at item (s .holds) judged;
-            stands = rw bytes-more (joined bytes 0 (s .stands) (rw (same code i j k (fits .known)) at stands));
+            stands = rw (bytes-append, append-nil) (joined bytes 0 (s .stands) (rw (same code i j k (fits .known)) at stands));
           } in
           from n next (is ++ item ∷ []) t (omega (arith, forward (kind .table) bytes at code i j k next small (sym read))) rest)
           (read-on (itemAt (kind .table) bytes at) _ _ e)

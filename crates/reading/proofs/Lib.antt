@@ -7,3 +7,5 @@ pub mod Items
 pub mod Bytes
 pub mod Unique
 pub mod InTurn
+pub mod Each
+pub mod Buffers

@@ -2,7 +2,9 @@
 use mathlib.Core.Path.{_≡_}
 use mathlib.Core.Bool.{true, _||_}
 use mathlib.Core.List.{List, [], _∷_}
+use mathlib.Core.Logic.{by-cases}
 use Prim.Native.Nat.{ℕ, suc, _+_, _-_, _*_, _/_, _%_, _≤_, _<_}
+use native.Mathlib.Decide.{decLt}
 use native.Mathlib.Numerals.{add-one}
 use native.Mathlib.Omega.{arith}
 use borrow.Author.Tests.{lt-ltb, le-ltb, le-leb, lt-leb, ne-eqb}
@@ -66,3 +68,11 @@ bytes-two n h t = let e : n / 128 % 128 ≡ n / 128 = omega arith in rw (le-ltb 
 pub bytes-none : (n : ℕ) → 128 ≤ n → limits .number < n → numberBytes n ≡ []
 unfolding numberBytes
 bytes-none n h t = rw (le-ltb n 128 h, lt-leb n (limits .number) t)
+
+-- a number takes two bytes at most
+pub number-length : (n : ℕ) → length (numberBytes n) ≤ 2
+number-length n =
+    by-cases (decLt n 128) (λ h. rw (bytes-one n h) (omega arith))
+    λ h. by-cases (decLt (limits .number) n)
+    (λ t. rw (bytes-none n (omega arith) t) (omega arith))
+    λ t. rw (bytes-two n (omega arith) (omega arith)) (omega arith)

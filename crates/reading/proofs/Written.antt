@@ -1,14 +1,15 @@
--- Laws of `written` and `placeAfter`: bytes that fit stand from the place on and the next place is behind them, and bytes that don't leave all as it was.
+-- Laws of `written` and `placeAfter`: bytes that fit stand from the place on and the next place is behind them, and bytes that don't leave all as it was. As stores one by
+-- one, bytes behind bytes are one run of bytes.
 use mathlib.Core.Path.{_≡_}
-use mathlib.Core.List.{List, []}
-use Prim.Native.Nat.{ℕ, _+_, _≤_, _<_}
-use native.Mathlib.Nat.{add-zero}
+use mathlib.Core.List.{List, [], _∷_, _++_}
+use Prim.Native.Nat.{ℕ, suc, _+_, _≤_, _<_}
+use native.Mathlib.Nat.{add-zero, add-assoc}
 use native.Mathlib.Decide.{decLe}
 use native.Mathlib.Omega.{arith}
 use mathlib.Core.Logic.{by-cases}
 use borrow.Author.Tests.{le-leb, lt-leb}
-use lib.ListN.{length}
-use lib.Seq.{sets, sets-eq}
+use lib.ListN.{length, set, length-append}
+use lib.Seq.{sets, sets-eq, length-sets}
 use Rattle.reading.specs.Numbers.{written, placeAfter}
 
 module _ (buffer : List ℕ) (at : ℕ) (bytes : List ℕ) where
@@ -22,9 +23,37 @@ module _ (buffer : List ℕ) (at : ℕ) (bytes : List ℕ) where
   unfolding written placeAfter
   unfitting h = (rw (lt-leb _ _ h), rw (lt-leb _ _ h))
 
+-- the buffer stays as long as it is
+pub written-length : (buffer : List ℕ) (at : ℕ) (bytes : List ℕ) → length (written buffer at bytes) ≡ length buffer
+written-length buffer at bytes =
+    by-cases (decLe (at + length bytes) (length buffer))
+    (λ h. rw (← fitting buffer at bytes h .0, length-sets))
+    (λ h. rw (← unfitting buffer at bytes (omega arith) .0))
+
 -- no bytes, wherever
 pub nothing : (buffer : List ℕ) (at : ℕ) → (buffer ≡ written buffer at []) × (at ≡ placeAfter buffer at [])
 nothing buffer at =
     by-cases (decLe (at + 0) (length buffer))
     (λ h. rw add-zero at (fitting buffer at [] h))
     (λ h. unfitting buffer at [] (omega arith))
+
+-- stores one by one, and more behind them
+sets-append : (buffer : List ℕ) (at : ℕ) (xs ys : List ℕ) → sets (sets buffer at xs) (at + length xs) ys ≡ sets buffer at (xs ++ ys)
+sets-append buffer at [] ys = rw add-zero
+sets-append buffer at (x ∷ xs) ys =
+    let e : at + suc (length xs) ≡ suc at + length xs = omega arith in
+    rw e (sets-append (set buffer at x) (suc at) xs ys)
+
+-- bytes behind bytes, where all of them fit: the second find room, and both together are one run of bytes
+module _ (buffer : List ℕ) (at : ℕ) (xs ys : List ℕ) (fits : at + length (xs ++ ys) ≤ length buffer) where
+  pub room-more : placeAfter buffer at xs + length ys ≤ length (written buffer at xs)
+  room-more =
+      let (stores, place) = fitting buffer at xs (omega (arith, length-append xs ys)) in
+      rw (← stores, ← place, length-sets) (omega (arith, length-append xs ys))
+
+  pub written-more : (written (written buffer at xs) (placeAfter buffer at xs) ys ≡ written buffer at (xs ++ ys)) × (placeAfter (written buffer at xs) (placeAfter buffer at xs) ys ≡ placeAfter buffer at (xs ++ ys))
+  written-more =
+      let (first, place) = fitting buffer at xs (omega (arith, length-append xs ys)) in
+      let (both, end) = fitting buffer at (xs ++ ys) fits in
+      let (second, last) = fitting (written buffer at xs) (placeAfter buffer at xs) ys room-more in
+      (rw (← second, ← first, ← place, sets-append) both, rw (← last, ← place, add-assoc) (rw length-append at end))

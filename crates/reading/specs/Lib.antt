@@ -7,3 +7,4 @@ pub mod Numbers
 pub mod Padded
 pub mod Items
 pub mod InTurn
+pub mod Buffers

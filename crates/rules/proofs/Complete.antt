@@ -62,12 +62,12 @@ unfolding judgeOf badWindow tooLarge
 passed c at i f = simp (le-ltb, f .ranges .flag, f .ranges .window, f .ranges .bound, f .operands, f .items, f .timed, f .lower)
 
 -- each item finds its operands among the values before it
-abbrev Enough : List Formula → Items → Type 0
+abbrev pub Enough : List Formula → Items → Type 0
 Enough st [] = Unit {0}
 Enough st (i ∷ is) = (rowOf i .operands ≤ length st) × Enough (apply i st) is
 
 -- so do the items of a formula
-enough : (f : Formula) (st : List Formula) (is : Items) → Enough (f ∷ st) is → Enough st (postfix f ++ is)
+pub enough : (f : Formula) (st : List Formula) (is : Items) → Enough (f ∷ st) is → Enough st (postfix f ++ is)
 unfolding postfix apply
 enough True st is e = (omega arith, e)
 enough False st is e = (omega arith, e)

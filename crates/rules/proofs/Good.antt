@@ -7,6 +7,7 @@ use lib.ListN.{take, drop}
 use Rattle.reading.specs.Limits.{limits}
 use Rattle.rules.specs.Formula.{Formula, horizon}
 use Rattle.reading.specs.Each.{Each}
+use Rattle.reading.proofs.Each.{each-more}
 use Rattle.rules.specs.Good.{InRange, Fine, Good, postfixes}
 use Rattle.rules.specs.Items.{rowOf}
 use Rattle.rules.specs.Loading.{Items, stackFrom, stackOf, timedIn, lowerIn, countsOf, countedOf}
@@ -14,10 +15,6 @@ use Rattle.rules.specs.Walking.{largestOf}
 use Rattle.rules.specs.declared.item.Item.{Item}
 use Rattle.rules.specs.declared.judge.Counts.{Counts}
 use Rattle.rules.proofs.Stack.{applied, counts-more, stack-more, timed-more}
-
-each-more : {A : Type 0} (P : A → Type 0) (xs : List A) (x : A) → Each P xs → P x → Each P (xs ++ x ∷ [])
-each-more P [] x e p = (p, tt)
-each-more P (y ∷ xs) x e p = (e .0, each-more P xs x (e .1) p)
 
 each-drop : {A : Type 0} (P Q : A → Type 0) (n : ℕ) (xs : List A) → ((x : A) → P x → Q x) → Each P xs → Each Q (drop n xs)
 each-drop P Q zero [] f e = tt

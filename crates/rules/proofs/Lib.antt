@@ -11,3 +11,4 @@ pub mod Accepted
 pub mod Samples
 pub mod Unique
 pub mod Complete
+pub mod Prefixes

@@ -1,16 +1,15 @@
 -- Items and their bytes: the bytes that are read as an item are those of the item that they make, whichever of the ten codes it has; and items in range are short.
 use mathlib.Core.Path.{_≡_, refl}
 use mathlib.Core.List.{[], _∷_, append-nil}
-use mathlib.Core.Logic.{by-cases}
 use Prim.Native.Nat.{ℕ, _+_, _*_, _≤_, _<_}
-use native.Mathlib.Decide.{decLt}
 use native.Mathlib.Omega.{arith}
-use borrow.Author.Tests.{lt-ltb, le-ltb, lt-leb, le-leb}
+use borrow.Author.Tests.{lt-ltb}
 use lib.ListN.{length, length-append}
 use Rattle.reading.specs.InTurn.{bytesOfAll}
 use Rattle.reading.specs.Items.{itemBytes, numbersOf, noCode, numbersBytes, look, ruleCodes}
 use Rattle.reading.specs.Limits.{limits}
 use Rattle.reading.proofs.Items.{by-row}
+use Rattle.reading.proofs.Numbers.{number-length}
 use Rattle.reading.specs.Numbers.{numberBytes}
 use Rattle.reading.specs.declared.item.Table.{Table}
 use Rattle.reading.specs.Each.{Each}
@@ -25,15 +24,7 @@ item-bytes =
     by-row (λ code. (i j k : ℕ) → itemBytes Table.Rule code i j k ≡ bytesOf (itemOf code i i j)) ruleCodes
     ((λ i j k. refl), ((λ i j k. refl), ((λ i j k. rw append-nil), ((λ i j k. refl), ((λ i j k. refl), ((λ i j k. refl), ((λ i j k. rw append-nil), ((λ i j k. rw append-nil), ((λ i j k. rw append-nil), ((λ i j k. rw append-nil), tt))))))))))
 
--- a number takes two bytes at most, and one below 128
-number-length : (n : ℕ) → length (numberBytes n) ≤ 2
-unfolding numberBytes
-number-length n =
-    by-cases (decLt n 128) (λ h. rw (lt-ltb n 128 h) (omega arith))
-    λ h. by-cases (decLt (limits .number) n)
-    (λ t. rw (le-ltb n 128 (omega arith), lt-leb n (limits .number) t) (omega arith))
-    λ t. rw (le-ltb n 128 (omega arith), le-leb n (limits .number) (omega arith)) (omega arith)
-
+-- a flag takes one byte
 flag-length : (n : ℕ) → n ≤ limits .flag → length (numberBytes n) ≡ 1
 unfolding numberBytes
 flag-length n h = rw (lt-ltb n 128 (omega arith))

@@ -18,15 +18,24 @@ unfolding stackFrom
 stack-more st [] i = refl
 stack-more st (j ∷ is) i = stack-more (apply j st) is i
 
+-- what is counted adds up
+pub timed-append : (is js : Items) → timedIn (is ++ js) ≡ timedIn is + timedIn js
+unfolding timedIn
+timed-append [] js = omega arith
+timed-append (i ∷ is) js = omega (arith, timed-append is js)
+
+pub lower-append : (is js : Items) → lowerIn (is ++ js) ≡ lowerIn is + lowerIn js
+unfolding lowerIn
+lower-append [] js = omega arith
+lower-append (i ∷ is) js = omega (arith, lower-append is js)
+
 pub timed-more : (is : Items) (i : Item) → timedIn (is ++ i ∷ []) ≡ timedIn is + rowOf i .timed
 unfolding timedIn
-timed-more [] i = omega arith
-timed-more (j ∷ is) i = omega (arith, timed-more is i)
+timed-more is i = omega (arith, timed-append is (i ∷ []))
 
 pub lower-more : (is : Items) (i : Item) → lowerIn (is ++ i ∷ []) ≡ lowerIn is + rowOf i .lower
 unfolding lowerIn
-lower-more [] i = omega arith
-lower-more (j ∷ is) i = omega (arith, lower-more is i)
+lower-more is i = omega (arith, lower-append is (i ∷ []))
 
 -- What an item makes of values that suffice as its operands: its value and the values below it; the value's horizon; the items of all of them
 pub record Applied (i : Item) (st : List Formula) : Type 0 where

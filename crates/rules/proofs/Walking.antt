@@ -30,14 +30,14 @@ stacked-set array (x ∷ xs) d v h s =
     (getD-set-other array d (length xs) v 0 (omega arith) ∙ s .0, stacked-set array xs d v (omega arith) (s .1))
 
 -- values taken off
-stacked-drop : (array : List ℕ) (n : ℕ) (xs : List ℕ) → Stacked array xs → Stacked array (drop n xs)
+pub stacked-drop : (array : List ℕ) (n : ℕ) (xs : List ℕ) → Stacked array xs → Stacked array (drop n xs)
 unfolding Stacked
 stacked-drop array zero xs s = s
 stacked-drop array (suc n) [] s = tt
 stacked-drop array (suc n) (x ∷ xs) s = stacked-drop array n xs (s .1)
 
 -- a value put on
-stacked-push : (array xs : List ℕ) (d v : ℕ) → d ≡ length xs → d < length array → Stacked array xs → Stacked (set array d v) (v ∷ xs)
+pub stacked-push : (array xs : List ℕ) (d v : ℕ) → d ≡ length xs → d < length array → Stacked array xs → Stacked (set array d v) (v ∷ xs)
 unfolding Stacked
 stacked-push array xs d v e h s =
     (rw (← e) (getD-set-same array d v 0 h), stacked-set array xs d v (omega arith) s)

@@ -20,7 +20,7 @@ use Rattle.sequencer.specs.Rows.{rowOf}
 use Rattle.sequencer.specs.Registers.{counterOf, kept, freshRegisters, start, shifted, execute, executed, registersOf, outputOf}
 use Rattle.sequencer.specs.Good.{Good}
 use Rattle.sequencer.specs.After.{window, ownCounter, ownDelays, countersOf, delaysOf, registersAfter, stepsOver}
-use Rattle.sequencer.specs.Running.{over}
+use Rattle.reading.specs.Buffers.{over}
 use Rattle.sequencer.proofs.Counting.{good-counters, good-delays, good-lines}
 
 -- A line of bits

@@ -15,15 +15,23 @@ use Rattle.sequencer.specs.Loading.{reachOf, distanceOf, reachesIn, dist
 use Rattle.sequencer.specs.Rows.{rowOf}
 use Rattle.sequencer.specs.Good.{Within, Fine, Good}
 
+pub reaches-append : (is js : Code) → reachesIn (is ++ js) ≡ reachesIn is + reachesIn js
+unfolding reachesIn
+reaches-append [] js = omega arith
+reaches-append (i ∷ is) js = omega (arith, reaches-append is js)
+
+pub distance-append : (is js : Code) → distanceIn (is ++ js) ≡ distanceIn is + distanceIn js
+unfolding distanceIn
+distance-append [] js = omega arith
+distance-append (i ∷ is) js = omega (arith, distance-append is js)
+
 pub reaches-more : (is : Code) (i : Instruction) → reachesIn (is ++ i ∷ []) ≡ reachesIn is + reachOf i
 unfolding reachesIn
-reaches-more [] i = omega arith
-reaches-more (j ∷ is) i = omega (arith, reaches-more is i)
+reaches-more is i = omega (arith, reaches-append is (i ∷ []))
 
 pub distance-more : (is : Code) (i : Instruction) → distanceIn (is ++ i ∷ []) ≡ distanceIn is + distanceOf i
 unfolding distanceIn
-distance-more [] i = omega arith
-distance-more (j ∷ is) i = omega (arith, distance-more is i)
+distance-more is i = omega (arith, distance-append is (i ∷ []))
 
 within-more : (is : Code) (i : Instruction) → Fine is i → Within (countsOf (is ++ i ∷ []))
 unfolding countsOf

@@ -1,6 +1,6 @@
--- Judging an instruction by its row is judging it by document 01's words, test by test; and an instruction that is not refused has passed each test: of the choices in turn
--- between a refusal and the rest, none took the refusal.
-use mathlib.Core.Path.{_≡_, refl}
+-- Judging an instruction by its row is judging it by document 01's words, test by test; and an instruction that is not refused has passed each test, as of the choices in turn
+-- between a refusal and the rest none took the refusal, and one that passes each test is not refused.
+use mathlib.Core.Path.{_≡_, refl, sym, _∙_}
 use mathlib.Core.Bool.{false, _||_, or-false}
 use mathlib.Core.List.{_∷_, [], _++_}
 use mathlib.Core.Logic.{by-cases}
@@ -127,3 +127,13 @@ passed is at i d e =
       rw own (record { instructions = ltb-false _ _ many; reaches = ltb-false _ _ reaches; distance = ltb-false _ _ distance }),
       rw own (counts-more is i),
     )
+
+-- and one that is fine is not refused
+pub not-refused : (is : Code) (at : ℕ) (i : Instruction) → Fine is i → judgeOf (countsOf is) at i ≡ Judged.Next (countedOf (countsOf is) i)
+unfolding judgeRow badRow tooLarge countsOf countedOf
+not-refused is at i f =
+    let next = countedOf (countsOf is) i in
+    let width : badRow (rowOf i) ≡ false = rw (distance-column i, le-ltb _ _ (f .width), le-ltb _ _ (f .some), le-ltb _ _ (f .near)) in
+    let large : tooLarge next ≡ false = rw (le-ltb _ _ (f .instructions), le-ltb _ _ (f .counters), le-ltb _ _ (f .delays)) in
+    sym (judged-row (countsOf is) at i)
+    ∙ rw (counted-row (countsOf is) i, width, large, le-ltb _ _ (f .flag), le-ltb _ _ (f .earlier))

@@ -7,6 +7,7 @@ pub mod Judging
 pub mod Flat
 pub mod Turns
 pub mod Accepted
+pub mod Complete
 pub mod Through
 pub mod Stepping
 pub mod Running

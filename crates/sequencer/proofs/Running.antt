@@ -17,7 +17,8 @@ use Rattle.sequencer.specs.Bits.{output}
 use Rattle.sequencer.specs.Code.{Code}
 use Rattle.sequencer.specs.Loading.{readCode, codeOf}
 use Rattle.sequencer.specs.Registers.{freshRegisters, start, executed}
-use Rattle.sequencer.specs.Running.{byteOf, verdicts, badClip, ranOf, bufferAfter, over}
+use Rattle.sequencer.specs.Running.{byteOf, verdicts, badClip, ranOf, bufferAfter}
+use Rattle.reading.specs.Buffers.{over}
 use Rattle.sequencer.specs.declared.registers.Registers.{Registers}
 use Rattle.sequencer.specs.declared.run.Ran.{Ran}
 use Rattle.sequencer.specs.Programs.{codeIn, Fits, Leaves, Loads}

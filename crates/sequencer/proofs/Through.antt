@@ -19,7 +19,7 @@ use Rattle.sequencer.specs.Rows.{rowOf}
 use Rattle.sequencer.specs.Registers.{Working, start, bit, shifted, execute, executed, counterOf, kept}
 use Rattle.sequencer.specs.declared.registers.Registers.{Registers}
 use Rattle.sequencer.specs.Programs.{instructionAt, codeIn, Fits, Leaves}
-use Rattle.sequencer.specs.Running.{over}
+use Rattle.reading.specs.Buffers.{over}
 use Rattle.sequencer.proofs.Counting.{reaches-more, distance-more}
 use Rattle.sequencer.proofs.Flat.{code-length, fine-at}
 use Rattle.sequencer.proofs.Instructions.{is-one, is-flag, is-nand, is-reach, is-later}

@@ -6,7 +6,7 @@ use Rattle.reading.specs.Frames.{Clip}
 use Rattle.sequencer.specs.Bits.{Wire, counter, later, wire, wireOf}
 use Rattle.sequencer.specs.Code.{Instruction, One, Flag, Nand, Reach, Later, Code}
 use Rattle.sequencer.specs.Registers.{kept, freshRegisters, start, executed, registersOf}
-use Rattle.sequencer.specs.Running.{over}
+use Rattle.reading.specs.Buffers.{over}
 use Rattle.sequencer.specs.declared.registers.Registers.{Registers}
 
 -- The last d bits of a wire, the oldest first

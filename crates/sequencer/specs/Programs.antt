@@ -9,7 +9,7 @@ use Rattle.sequencer.specs.Code.{Instruction, Code, instructionOf}
 use Rattle.sequencer.specs.Good.{Good}
 use Rattle.sequencer.specs.Registers.{Working, outputOf}
 use Rattle.sequencer.specs.declared.registers.Registers.{Registers}
-use Rattle.sequencer.specs.Running.{over}
+use Rattle.reading.specs.Buffers.{over}
 
 -- The instruction that stands in an array of such numbers
 unfoldable pub instructionAt : List ℕ → ℕ → Instruction

@@ -1,10 +1,11 @@
 -- The run. Document 01: "Run: code, 13, 16; the run writes one byte a frame", "13 clip empty or over 65,535 frames", "16 output buffer shorter than the answer", "starts at the
 -- buffer's first byte, and the bytes behind the answer stay". The byte of a frame is the output after the clip from that frame to its end.
 use mathlib.Core.Bool.{Bool, true, false, cond, _||_}
-use mathlib.Core.List.{List, [], _∷_, _++_}
+use mathlib.Core.List.{List, [], _∷_}
 use Prim.Native.Nat.{ℕ}
 use lib.Dec.{ltb, eqb}
-use lib.ListN.{length, drop}
+use lib.ListN.{length}
+use Rattle.reading.specs.Buffers.{over}
 use Rattle.reading.specs.Frames.{Clip}
 use Rattle.reading.specs.InTurn.{Walked, items, refused}
 use Rattle.reading.specs.Limits.{limits}
@@ -33,10 +34,6 @@ ranOf (items code) clip out =
     cond (badClip (length clip)) (Ran.Refused Refusal.BadClip)
     (cond (ltb (length out) (length clip)) (Ran.Refused Refusal.ShortOutput) Ran.Done)
 ranOf (refused r) clip out = Ran.Refused r
-
--- Elements over the first ones of a list; the rest stays as it is
-abbrev pub over : {A : Type 0} → List A → List A → List A
-over own all = own ++ drop (length own) all
 
 -- What a run leaves in the output buffer, by its answer
 abbrev pub bufferAfter : Ran → Code → Clip → List ℕ → List ℕ

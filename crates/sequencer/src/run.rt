@@ -1,7 +1,8 @@
 // The run: code over a clip, from the last frame to the first, one byte for each frame.
 ghost use mathlib.Core.Path.{_≡_};
+ghost use Rattle.reading.specs.Buffers.{over};
 ghost use Rattle.sequencer.specs.Loading.{readCode, codeOf};
-ghost use Rattle.sequencer.specs.Running.{badClip, byteOf, verdicts, ranOf, bufferAfter, over};
+ghost use Rattle.sequencer.specs.Running.{badClip, byteOf, verdicts, ranOf, bufferAfter};
 ghost use Rattle.sequencer.specs.Programs.{codeIn, Loads};
 use crate::load::Loaded;
 use crate::load::decode;

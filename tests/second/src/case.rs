@@ -1,5 +1,5 @@
-//! A case for the sequencer: as part of a binary stream, as a line of text, and
-//! its answer as a line.
+//! A case for the sequencer or the emitter: as part of a binary stream, as a
+//! line of text, and its answer as a line.
 //!
 //! In a stream a case is a byte for its kind and three times bytes with their
 //! length:
@@ -9,6 +9,8 @@
 //!   counters of two bytes, lowest first, then a byte, 0 or 1, for each of the
 //!   256 delay bits.
 //! - `r`, run: the code; the clip; the buffer as it is before.
+//! - `e`, emit: the rule; nothing; the buffer as it is before.
+//! - `j`, judge: the rule; the clip; the buffer as it is before.
 //!
 //! As a line, with bytes in hex, and `01*320` for 320 times the byte `01`:
 //!
@@ -16,9 +18,13 @@
 //! - `step CODE | FRAME | COUNTERS | DELAYS`: counters in decimal, delay bits by
 //!   hex digits, four to a digit, the first one highest. What is not given is 0.
 //! - `run CODE | CLIP | BUFFER`
+//! - `emit RULE | BUFFER`
+//! - `judge RULE | CLIP | BUFFER`
 
 use crate::code;
+use crate::emit::emit_rule;
 use crate::machine::{counter_of, kept, run, step, Registers, COUNTERS, DELAYS};
+use crate::meaning::judge;
 use crate::rule::Refusal;
 use crate::stream::{cut, read_bytes, read_up_to, write_bytes};
 use std::io::{self, Read, Write};
@@ -35,6 +41,15 @@ pub enum Case {
     },
     Run {
         code: Vec<u8>,
+        clip: Vec<u8>,
+        buffer: Vec<u8>,
+    },
+    Emit {
+        rule: Vec<u8>,
+        buffer: Vec<u8>,
+    },
+    Judge {
+        rule: Vec<u8>,
         clip: Vec<u8>,
         buffer: Vec<u8>,
     },
@@ -68,7 +83,7 @@ fn registers_of_bytes(bytes: &[u8]) -> Option<Registers> {
 
 /// Writes one case to a stream.
 pub fn write_case(out: &mut impl Write, case: &Case) -> io::Result<()> {
-    let (kind, code, second, third) = match case {
+    let (kind, first, second, third) = match case {
         Case::Load { code } => (b'l', code, vec![], vec![]),
         Case::Step {
             code,
@@ -76,9 +91,11 @@ pub fn write_case(out: &mut impl Write, case: &Case) -> io::Result<()> {
             registers,
         } => (b's', code, vec![*frame], bytes_of_registers(registers)),
         Case::Run { code, clip, buffer } => (b'r', code, clip.clone(), buffer.clone()),
+        Case::Emit { rule, buffer } => (b'e', rule, vec![], buffer.clone()),
+        Case::Judge { rule, clip, buffer } => (b'j', rule, clip.clone(), buffer.clone()),
     };
     out.write_all(&[kind])?;
-    write_bytes(out, code)?;
+    write_bytes(out, first)?;
     write_bytes(out, &second)?;
     write_bytes(out, &third)
 }
@@ -89,17 +106,26 @@ pub fn read_case(input: &mut impl Read) -> io::Result<Option<Case>> {
         return Ok(None);
     };
     let mut next = || read_bytes(input)?.ok_or_else(|| cut("the stream ends inside a case"));
-    let (code, second, third) = (next()?, next()?, next()?);
+    let (first, second, third) = (next()?, next()?, next()?);
     let no_case = || io::Error::new(io::ErrorKind::InvalidData, "this is no case");
     match kind {
-        b'l' => Ok(Some(Case::Load { code })),
+        b'l' => Ok(Some(Case::Load { code: first })),
         b's' => Ok(Some(Case::Step {
-            code,
+            code: first,
             frame: *second.first().ok_or_else(no_case)?,
             registers: Box::new(registers_of_bytes(&third).ok_or_else(no_case)?),
         })),
         b'r' => Ok(Some(Case::Run {
-            code,
+            code: first,
+            clip: second,
+            buffer: third,
+        })),
+        b'e' => Ok(Some(Case::Emit {
+            rule: first,
+            buffer: third,
+        })),
+        b'j' => Ok(Some(Case::Judge {
+            rule: first,
             clip: second,
             buffer: third,
         })),
@@ -209,6 +235,15 @@ pub fn case_of_line(line: &str) -> Result<Option<Case>, String> {
             clip: bytes_of_words(clip)?,
             buffer: bytes_of_words(buffer)?,
         })),
+        ("emit", [rule, buffer]) => Ok(Some(Case::Emit {
+            rule: bytes_of_words(rule)?,
+            buffer: bytes_of_words(buffer)?,
+        })),
+        ("judge", [rule, clip, buffer]) => Ok(Some(Case::Judge {
+            rule: bytes_of_words(rule)?,
+            clip: bytes_of_words(clip)?,
+            buffer: bytes_of_words(buffer)?,
+        })),
         _ => Err(format!("{text:?} is no case")),
     }
 }
@@ -233,6 +268,15 @@ pub fn line_of_case(case: &Case) -> String {
             words_of_bytes(clip),
             words_of_bytes(buffer)
         ),
+        Case::Emit { rule, buffer } => {
+            format!("emit {} | {}", words_of_bytes(rule), words_of_bytes(buffer))
+        }
+        Case::Judge { rule, clip, buffer } => format!(
+            "judge {} | {} | {}",
+            words_of_bytes(rule),
+            words_of_bytes(clip),
+            words_of_bytes(buffer)
+        ),
     }
 }
 
@@ -240,13 +284,22 @@ fn words_of_refusal(refusal: Refusal) -> String {
     format!("refused {} {}", refusal.number, refusal.place)
 }
 
+/// What was done, or the refusal, and every byte of the buffer after it, two hex
+/// digits each.
+fn words_of_buffer(done: Result<String, Refusal>, buffer: &[u8]) -> String {
+    let done = done.unwrap_or_else(words_of_refusal);
+    let digits: String = buffer.iter().map(|byte| format!("{byte:02x}")).collect();
+    format!("{done} [{digits}]")
+}
+
 /// The answer to a case, as a line without its end:
 ///
 /// - load: `accepted INSTRUCTIONS` or `refused NUMBER PLACE`;
 /// - step: `bit BIT` or the refusal, and ` counters COUNTERS delays DELAYS` with
 ///   all registers after it, as in the line of a case;
-/// - run: `done` or the refusal, and ` [BUFFER]` with every byte of the buffer
-///   after it, two hex digits each.
+/// - run and judge: `done` or the refusal, and ` [BUFFER]` with every byte of the
+///   buffer after it, two hex digits each;
+/// - emit: `length BYTES` or the refusal, and the buffer in the same way.
 pub fn answer(case: &Case) -> String {
     match case {
         Case::Load { code } => match code::load(code) {
@@ -269,12 +322,18 @@ pub fn answer(case: &Case) -> String {
         }
         Case::Run { code, clip, buffer } => {
             let mut after = buffer.clone();
-            let ran = match run(code, clip, &mut after) {
-                Ok(()) => "done".to_string(),
-                Err(refusal) => words_of_refusal(refusal),
-            };
-            let digits: String = after.iter().map(|byte| format!("{byte:02x}")).collect();
-            format!("{ran} [{digits}]")
+            let done = run(code, clip, &mut after).map(|()| "done".to_string());
+            words_of_buffer(done, &after)
+        }
+        Case::Emit { rule, buffer } => {
+            let mut after = buffer.clone();
+            let done = emit_rule(rule, &mut after).map(|length| format!("length {length}"));
+            words_of_buffer(done, &after)
+        }
+        Case::Judge { rule, clip, buffer } => {
+            let mut after = buffer.clone();
+            let done = judge(rule, clip, &mut after).map(|()| "done".to_string());
+            words_of_buffer(done, &after)
         }
     }
 }
@@ -313,6 +372,17 @@ mod tests {
             buffer: vec![],
         };
         assert_eq!(case("run 02 00 | 03*3 |"), run);
+        let emit = Case::Emit {
+            rule: vec![0x12, 0],
+            buffer: vec![9; 4],
+        };
+        assert_eq!(case("emit 12 00 | 09*4"), emit);
+        let judge = Case::Judge {
+            rule: vec![],
+            clip: vec![1, 2],
+            buffer: vec![0],
+        };
+        assert_eq!(case("judge | 01 02 | 00"), judge);
         assert_eq!(case_of_line(""), Ok(None));
         assert_eq!(case_of_line("  # load 01"), Ok(None));
         for line in [
@@ -328,6 +398,9 @@ mod tests {
             "step 01 | 00 | 0 0 0 0 0 0 0 0 0 0 0 0 0 0 0 0 0 |",
             "step 01 | 00 | | x",
             "run 01 | 00",
+            "emit 10",
+            "emit 10 | | 00",
+            "judge 10 | 00",
             "Load 01",
         ] {
             assert!(case_of_line(line).is_err(), "{line}");
@@ -343,6 +416,8 @@ mod tests {
             "load 01*320".to_string(),
             format!("step 01 02 | ff | 0 65535 {ZEROS} | {}", "9a".repeat(32)),
             "run 01 01 01 01 | 00*65536 | 01 02*5 00".to_string(),
+            "emit 12 07 20*5 | ff*400".to_string(),
+            "judge 10 | 00 01 02 | 03".to_string(),
         ];
         let cases: Vec<Case> = lines.iter().map(|line| case(line)).collect();
         let mut stream = Vec::new();
@@ -367,8 +442,9 @@ mod tests {
     #[test]
     fn a_stream_without_cases_is_an_error() {
         let none = [0u8; 12];
-        for (kind, good) in [(b'l', true), (b's', false), (b'r', true), (b'x', false)] {
+        for kind in 0..=255u8 {
             let stream = [&[kind], &none[..]].concat();
+            let good = b"lrej".contains(&kind);
             assert_eq!(read_case(&mut &stream[..]).is_ok(), good);
         }
     }
@@ -394,5 +470,18 @@ mod tests {
         );
         assert_eq!(answer_to("run 01 | 00 00 | 09"), "refused 16 0 [09]");
         assert_eq!(answer_to("run | |"), "refused 1 0 []");
+        assert_eq!(
+            answer_to("emit 12 00 32 02 04 | ff*12"),
+            "length 10 [02000104010002050202ffff]"
+        );
+        assert_eq!(answer_to("emit 10 |"), "refused 16 0 []");
+        assert_eq!(answer_to("emit 10 10 | 09"), "refused 9 2 [09]");
+        assert_eq!(
+            answer_to("judge 12 00 12 01 30 01 03 | 00 01 02 | ff*4"),
+            "done [010100ff]"
+        );
+        assert_eq!(answer_to("judge 10 | | 09"), "refused 13 0 [09]");
+        assert_eq!(answer_to("judge 10 | 00 00 | 09"), "refused 16 0 [09]");
+        assert_eq!(answer_to("judge 21 | | 09"), "refused 7 0 [09]");
     }
 }

@@ -1,7 +1,7 @@
 //! The list of rules that both programs load, the same for the same seed.
 
 use crate::random::{
-    damaged_rule, good_rule, lowers_of_sum, random_bytes, rule_of_items, rule_of_lowers,
+    damaged_rule, generator, good_rule, lowers_of_sum, random_bytes, rule_of_items, rule_of_lowers,
     short_rule, Random, CODES,
 };
 use crate::rule::{MOST_ITEMS, MOST_LOWER, MOST_TIMED};
@@ -100,7 +100,7 @@ const TAILS: [&str; 26] = [
     "32 00 80 02",
 ];
 
-type Rules = Vec<Vec<u8>>;
+pub type Rules = Vec<Vec<u8>>;
 
 /// A part of the list, with a short name for it.
 pub struct Part {
@@ -112,10 +112,7 @@ pub struct Part {
 /// that a change in one part leaves the others as they are.
 pub fn parts(seed: u64) -> Vec<Part> {
     let part = |name, rules| Part { name, rules };
-    let random = |number: u64| {
-        let mut first = Random::new(seed);
-        Random::new(first.draw() ^ number.wrapping_mul(0x1_0000_0001))
-    };
+    let random = |number: u64| generator(seed, number);
     vec![
         part("empty", vec![vec![]]),
         part("single bytes", (0..=255).map(|byte| vec![byte]).collect()),
@@ -147,11 +144,17 @@ fn joined(first: &[u8], second: &[u8]) -> Vec<u8> {
     [first, second].concat()
 }
 
-/// Every prefix of the samples, of some random rules, and of one rule with
-/// every code.
-fn prefixes(random: &mut Random) -> Rules {
+/// The samples, and one rule with every code.
+pub fn samples() -> Rules {
     let mut rules: Rules = SAMPLES.iter().map(|text| bytes(text)).collect();
     rules.push(bytes(EVERY_CODE));
+    rules
+}
+
+/// Every prefix of the samples, of one rule with every code, and of some random
+/// rules.
+fn prefixes(random: &mut Random) -> Rules {
+    let mut rules = samples();
     for _ in 0..60 {
         rules.push(good_rule(random));
     }
@@ -200,7 +203,7 @@ fn changed_bytes(random: &mut Random) -> Rules {
 }
 
 /// Rules on either side of each limit.
-fn edges(random: &mut Random) -> Rules {
+pub fn edges(random: &mut Random) -> Rules {
     let mut out = Vec::new();
     item_edges(random, &mut out);
     timed_edges(random, &mut out);

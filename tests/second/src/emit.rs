@@ -1,13 +1,27 @@
 //! A formula as sequencer code, by document 01's table.
 
-use crate::code::Instruction;
-use crate::rule::{Formula, Window};
+use crate::code::{self, Instruction};
+use crate::rule::{load, Formula, Refusal, Window};
 
 /// The code of a formula. Limits are not asked about.
 pub fn emit(f: &Formula) -> Vec<Instruction> {
     let mut code = Vec::new();
     append(f, &mut code);
     code
+}
+
+/// Emits a rule: the rule, then 16. It writes the code's bytes from the buffer's
+/// first byte on and gives their number, and writes nothing if it refuses.
+pub fn emit_rule(rule: &[u8], buffer: &mut [u8]) -> Result<usize, Refusal> {
+    let bytes = code::write(&emit(&load(rule)?.formula));
+    if buffer.len() < bytes.len() {
+        return Err(Refusal {
+            number: 16,
+            place: 0,
+        });
+    }
+    buffer[..bytes.len()].copy_from_slice(&bytes);
+    Ok(bytes.len())
 }
 
 /// Appends an instruction and gives its number.
@@ -90,22 +104,70 @@ fn append(f: &Formula, code: &mut Vec<Instruction>) -> usize {
 #[cfg(test)]
 mod tests {
     use super::*;
-    use crate::code;
     use crate::random::{good_formula, Random};
-    use crate::rule;
     use crate::stream::bytes_of_text;
 
-    fn emitted(text: &str) -> Vec<u8> {
-        let rule = rule::load(&bytes_of_text(text).unwrap()).unwrap();
-        code::write(&emit(&rule.formula))
+    /// Asserts what code the rule of a text has.
+    fn emits(rule: &str, expected: &str) {
+        let f = load(&bytes_of_text(rule).unwrap()).unwrap().formula;
+        let expected = bytes_of_text(expected).unwrap();
+        assert_eq!(code::write(&emit(&f)), expected, "{rule}");
     }
 
     #[test]
     fn samples_of_01() {
-        let expected = bytes_of_text("02 00 01 04 01 00 02 05 02 02").unwrap();
-        assert_eq!(emitted("12 00 32 02 04"), expected);
-        let expected = bytes_of_text("02 00 02 01 04 00 01 02 05 02 01").unwrap();
-        assert_eq!(emitted("12 00 12 01 30 01 03"), expected);
+        emits("12 00 32 02 04", "02 00 01 04 01 00 02 05 02 02");
+        emits("12 00 12 01 30 01 03", "02 00 02 01 04 00 01 02 05 02 01");
+    }
+
+    #[test]
+    fn each_row_of_the_table() {
+        emits("10", "01");
+        emits("12 07", "02 07");
+        emits("11", "01 03 00 00");
+        emits("12 03 20", "02 03 03 00 00");
+        emits("12 00 12 01 21", "02 00 02 01 03 00 01 03 02 02");
+        emits("12 00 12 01 22", "02 00 02 01 03 00 00 03 01 01 03 02 03");
+        let two = "02 00 02 01";
+        emits("12 00 12 01 30 00 03", &format!("{two} 04 00 01 03"));
+        emits(
+            "12 00 12 01 30 02 05",
+            &format!("{two} 04 00 01 03 05 02 02"),
+        );
+        let two = "02 00 02 01 03 00 00 03 01 01";
+        emits(
+            "12 00 12 01 31 00 03",
+            &format!("{two} 04 02 03 03 03 04 04"),
+        );
+        emits(
+            "12 00 12 01 31 02 05",
+            &format!("{two} 04 02 03 03 05 04 02 03 05 05"),
+        );
+        emits("12 00 32 00 04", "02 00 01 04 01 00 04");
+        emits("12 00 32 02 04", "02 00 01 04 01 00 02 05 02 02");
+        let one = "02 00 01 03 00 00";
+        emits("12 00 33 00 04", &format!("{one} 04 01 02 04 03 03 03"));
+        emits(
+            "12 00 33 02 04",
+            &format!("{one} 04 01 02 02 05 03 02 03 04 04"),
+        );
+    }
+
+    #[test]
+    fn an_emit_refuses_the_rule_then_16() {
+        let answer = |rule: &str, room: usize| {
+            let mut buffer = vec![9; room];
+            let result = emit_rule(&bytes_of_text(rule).unwrap(), &mut buffer);
+            (result, buffer)
+        };
+        let refusal = |number, place| Err(Refusal { number, place });
+        assert_eq!(answer("", 0), (refusal(1, 0), vec![]));
+        assert_eq!(answer("10 10", 0), (refusal(9, 2), vec![]));
+        assert_eq!(answer("12 08", 2), (refusal(5, 0), vec![9; 2]));
+        assert_eq!(answer("11", 0), (refusal(16, 0), vec![]));
+        assert_eq!(answer("11", 3), (refusal(16, 0), vec![9; 3]));
+        assert_eq!(answer("11", 4), (Ok(4), vec![1, 3, 0, 0]));
+        assert_eq!(answer("11", 6), (Ok(4), vec![1, 3, 0, 0, 9, 9]));
     }
 
     #[test]

@@ -1,5 +1,5 @@
-//! An independent reference for rules and the sequencer, written straight from
-//! document 01.
+//! An independent reference for rules, the emitter and the sequencer, written
+//! straight from document 01.
 //!
 //! Each module does one job in the plainest way. Nothing here is shared with
 //! the proved library: no code and no tables.
@@ -15,13 +15,16 @@
 //! - `machine`: the registers, one step, and the run over a clip.
 //! - `emit`: a formula as sequencer code.
 //! - `random_code`: repeatable random code, good and bad, registers and clips.
-//! - `case`: a case for the sequencer, in a stream and as text, and its answer.
-//! - `sequencer_cases`: the lists of cases that both programs answer.
+//! - `case`: a case for the sequencer or the emitter, in a stream and as text,
+//!   and its answer.
+//! - `sequencer_cases`, `emitter_cases`: the lists of cases that both programs
+//!   answer.
 
 pub mod case;
 pub mod cases;
 pub mod code;
 pub mod emit;
+pub mod emitter_cases;
 pub mod machine;
 pub mod meaning;
 pub mod number;

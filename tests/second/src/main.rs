@@ -2,7 +2,7 @@
 //! unpacks text.
 
 use second::case::{self, Case};
-use second::{cases, rule, sequencer_cases, stream};
+use second::{cases, emitter_cases, rule, sequencer_cases, stream};
 use std::io::{self, BufRead, BufWriter, Write};
 use std::process::ExitCode;
 
@@ -10,8 +10,9 @@ const USE: &str = "use:
   second cases SEED   write the stream of rules for a seed
   second load         read a stream of rules, write one line for each
   second pack         read rules as lines of hex bytes, write the stream
-for the sequencer:
-  second load-cases SEED, step-cases SEED, run-cases SEED
+for the sequencer and the emitter:
+  second load-cases SEED, step-cases SEED, run-cases SEED,
+         emit-cases SEED, judge-cases SEED
                       write the stream of cases for a seed
   second answer       read a stream of cases, write one line for each
   second pack-cases   read cases as lines of text, write the stream
@@ -27,6 +28,8 @@ fn main() -> ExitCode {
         ["load-cases", seed] => write_list(seed, sequencer_cases::load_cases),
         ["step-cases", seed] => write_list(seed, sequencer_cases::step_cases),
         ["run-cases", seed] => write_list(seed, sequencer_cases::run_cases),
+        ["emit-cases", seed] => write_list(seed, emitter_cases::emit_cases),
+        ["judge-cases", seed] => write_list(seed, emitter_cases::judge_cases),
         ["answer"] => write_lines(case::answer),
         ["pack-cases"] => pack_cases(),
         ["unpack-cases"] => write_lines(case::line_of_case),
@@ -86,7 +89,7 @@ fn pack_lines() -> Result<(), String> {
     out.flush().map_err(said)
 }
 
-/// Writes the cases of a list for the sequencer.
+/// Writes the cases of a list for the sequencer or the emitter.
 fn write_list(seed: &str, list: fn(u64) -> Vec<Case>) -> Result<(), String> {
     let mut out = BufWriter::new(io::stdout().lock());
     for case in list(seed_of(seed)?) {
@@ -95,7 +98,7 @@ fn write_list(seed: &str, list: fn(u64) -> Vec<Case>) -> Result<(), String> {
     out.flush().map_err(said)
 }
 
-/// Writes a line for each case of a stream for the sequencer.
+/// Writes a line for each case of such a stream.
 fn write_lines(line: fn(&Case) -> String) -> Result<(), String> {
     let mut input = io::stdin().lock();
     let mut out = BufWriter::new(io::stdout().lock());
@@ -105,7 +108,7 @@ fn write_lines(line: fn(&Case) -> String) -> Result<(), String> {
     out.flush().map_err(said)
 }
 
-/// Turns lines of text into a stream of cases for the sequencer.
+/// Turns lines of text into a stream of such cases.
 fn pack_cases() -> Result<(), String> {
     let mut out = BufWriter::new(io::stdout().lock());
     for (k, line) in io::stdin().lock().lines().enumerate() {

@@ -1,30 +1,46 @@
 //! Whether a formula holds on a clip, word for word as document 01 says it.
-//! Nothing is remembered between questions, so large windows inside each other
-//! take long.
+//! Asked about one frame, nothing is remembered between questions, so large
+//! windows inside each other take long; asked about all frames, the answers of
+//! each operand are kept.
 
-use crate::rule::{Formula, Window};
+use crate::machine::MOST_FRAMES;
+use crate::rule::{load, Formula, Refusal, Window};
 
 /// Whether the formula holds on the clip from frame `i`, which is a frame of
 /// the clip.
 pub fn holds(f: &Formula, clip: &[u8], i: usize) -> bool {
+    let operands = f.operands();
+    says(f, clip, i, &|k, at| holds(operands[k], clip, at))
+}
+
+/// Whether the formula holds on the clip from each frame, in frame order.
+pub fn verdicts(f: &Formula, clip: &[u8]) -> Vec<bool> {
+    let operands = f.operands();
+    let kept: Vec<Vec<bool>> = operands.iter().map(|f| verdicts(f, clip)).collect();
+    let from = |i| says(f, clip, i, &|k, at| kept[k][at]);
+    (0..clip.len()).map(from).collect()
+}
+
+/// What the formula says on the clip from frame `i`, where `operand` answers
+/// whether operand 0, the left or the only one, or operand 1 holds on the clip
+/// from a frame.
+fn says(f: &Formula, clip: &[u8], i: usize, operand: &dyn Fn(usize, usize) -> bool) -> bool {
     assert!(i < clip.len(), "the clip from frame {i} is empty");
     // The length of the clip from i.
     let n = clip.len() - i;
+    let first = |place: usize| operand(0, i + place);
+    let second = |place: usize| operand(1, i + place);
     match f {
         Formula::True => true,
         Formula::False => false,
         Formula::Flag(k) => (clip[i] >> k) & 1 == 1,
-        Formula::Not(f) => !holds(f, clip, i),
-        Formula::And(l, r) => holds(l, clip, i) && holds(r, clip, i),
-        Formula::Or(l, r) => holds(l, clip, i) || holds(r, clip, i),
-        Formula::Until(w, l, r) => until(*w, n, &|place| holds(l, clip, i + place), &|place| {
-            holds(r, clip, i + place)
-        }),
-        Formula::Release(w, l, r) => release(*w, n, &|place| holds(l, clip, i + place), &|place| {
-            holds(r, clip, i + place)
-        }),
-        Formula::Eventually(w, r) => until(*w, n, &|_| true, &|place| holds(r, clip, i + place)),
-        Formula::Globally(w, r) => release(*w, n, &|_| false, &|place| holds(r, clip, i + place)),
+        Formula::Not(_) => !first(0),
+        Formula::And(_, _) => first(0) && second(0),
+        Formula::Or(_, _) => first(0) || second(0),
+        Formula::Until(w, _, _) => until(*w, n, &first, &second),
+        Formula::Release(w, _, _) => release(*w, n, &first, &second),
+        Formula::Eventually(w, _) => until(*w, n, &|_| true, &first),
+        Formula::Globally(w, _) => release(*w, n, &|_| false, &first),
     }
 }
 
@@ -42,21 +58,42 @@ fn release(w: Window, n: usize, l: Operand, r: Operand) -> bool {
     !until(w, n, &|place| !l(place), &|place| !r(place))
 }
 
+/// Judges a clip by a rule's meaning: the rule, then 13, then 16. It writes one
+/// byte a frame from the buffer's first byte on, and nothing if it refuses.
+pub fn judge(rule: &[u8], clip: &[u8], buffer: &mut [u8]) -> Result<(), Refusal> {
+    let refuse = |number| Refusal { number, place: 0 };
+    let rule = load(rule)?;
+    if clip.is_empty() || clip.len() > MOST_FRAMES {
+        return Err(refuse(13));
+    }
+    if buffer.len() < clip.len() {
+        return Err(refuse(16));
+    }
+    for (place, verdict) in verdicts(&rule.formula, clip).into_iter().enumerate() {
+        buffer[place] = u8::from(verdict);
+    }
+    Ok(())
+}
+
 #[cfg(test)]
 mod tests {
     use super::*;
-    use crate::random::{formula, Budget, Random};
-    use crate::rule::load;
+    use crate::random::{formula, good_formula, Budget, Random};
     use crate::stream::bytes_of_text;
 
     fn rule(text: &str) -> Formula {
         load(&bytes_of_text(text).unwrap()).unwrap().formula
     }
 
+    /// The verdicts of all frames, one by one.
+    fn one_by_one(f: &Formula, clip: &[u8]) -> Vec<bool> {
+        (0..clip.len()).map(|i| holds(f, clip, i)).collect()
+    }
+
     /// The verdicts of all frames, as 0 and 1.
     fn verdicts(text: &str, clip: &[u8]) -> Vec<u8> {
-        let f = rule(text);
-        (0..clip.len()).map(|i| holds(&f, clip, i) as u8).collect()
+        let verdicts = one_by_one(&rule(text), clip);
+        verdicts.into_iter().map(u8::from).collect()
     }
 
     fn small_clip(random: &mut Random, frames: usize) -> Vec<u8> {
@@ -296,5 +333,51 @@ mod tests {
             let f = Formula::Globally(w, boxed(&r));
             assert_eq!(holds(&f, &clip, 0), every, "{f:?}");
         }
+    }
+    #[test]
+    fn all_frames_at_once_are_as_one_by_one() {
+        let mut random = Random::new(5);
+        for k in 0..20_000 {
+            // Any windows on few frames, or small ones on more.
+            let (f, frames) = if k % 2 == 0 {
+                (good_formula(&mut random), random.between(1, 4))
+            } else {
+                (small_formula(&mut random), random.between(1, 16))
+            };
+            let clip = small_clip(&mut random, frames);
+            assert_eq!(super::verdicts(&f, &clip), one_by_one(&f, &clip), "{f:?}");
+        }
+        assert_eq!(super::verdicts(&Formula::True, &[]), []);
+    }
+
+    #[test]
+    fn the_sample_of_01_is_judged() {
+        let mut buffer = [9; 5];
+        let rule = bytes_of_text("12 00 12 01 30 01 03").unwrap();
+        assert_eq!(judge(&rule, &[0, 1, 2], &mut buffer), Ok(()));
+        assert_eq!(buffer, [1, 1, 0, 9, 9]);
+    }
+
+    #[test]
+    fn a_judge_refuses_the_rule_then_13_then_16() {
+        let number = |rule: &[u8], frames: usize, room: usize| {
+            let mut buffer = vec![7; room];
+            let result = judge(rule, &vec![0; frames], &mut buffer);
+            if result.is_err() {
+                assert!(buffer.iter().all(|&byte| byte == 7));
+            }
+            result.map_or_else(|refusal| (refusal.number, refusal.place), |()| (0, 0))
+        };
+        assert_eq!(number(&[], 0, 0), (1, 0));
+        assert_eq!(number(&[0x10, 0x13], 65_536, 0), (2, 1));
+        assert_eq!(number(&[0x10, 0x10], 3, 0), (9, 2));
+        assert_eq!(number(&[0x10], 0, 0), (13, 0));
+        assert_eq!(number(&[0x10], 0, 5), (13, 0));
+        assert_eq!(number(&[0x10], 65_536, 0), (13, 0));
+        assert_eq!(number(&[0x10], 65_536, 65_536), (13, 0));
+        assert_eq!(number(&[0x10], 65_535, 65_534), (16, 0));
+        assert_eq!(number(&[0x10], 65_535, 65_535), (0, 0));
+        assert_eq!(number(&[0x10], 1, 0), (16, 0));
+        assert_eq!(number(&[0x10], 3, 9), (0, 0));
     }
 }

@@ -51,6 +51,13 @@ impl Random {
     }
 }
 
+/// A generator for one part of a list of cases, so that a change in one part
+/// leaves the others as they are.
+pub fn generator(seed: u64, part: u64) -> Random {
+    let mut first = Random::new(seed);
+    Random::new(first.draw() ^ part.wrapping_mul(0x1_0000_0001))
+}
+
 /// What a random formula may still use up.
 pub struct Budget {
     /// Timed items.

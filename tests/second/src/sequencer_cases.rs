@@ -4,7 +4,7 @@
 use crate::case::Case;
 use crate::code::{load, write, Instruction, MOST_DISTANCES, MOST_INSTRUCTIONS, MOST_REACHES};
 use crate::machine::{counter_of, MOST_FRAMES};
-use crate::random::Random;
+use crate::random::{generator, Random};
 use crate::random_code::{
     any_code, clip, code_of_instructions, code_of_timed, damaged_code, distances_of_sum, edge_code,
     good_code, random_code_bytes, registers,
@@ -69,13 +69,6 @@ const TAILS: [&str; 26] = [
     "05 ff 7f 00",
     "05 00 80 02",
 ];
-
-/// A generator for one part of a list, so that a change in one part leaves the
-/// others as they are.
-fn generator(seed: u64, part: u64) -> Random {
-    let mut first = Random::new(seed);
-    Random::new(first.draw() ^ part.wrapping_mul(0x1_0000_0001))
-}
 
 /// A text of hex bytes that is written in this file.
 fn bytes(text: &str) -> Vec<u8> {

@@ -1,0 +1,159 @@
+-- `emit` past its tests. A rule that is loaded and accepted has the items of one formula, each of which can be emitted behind those before it within the limits; so the code that its
+-- items make in order is the code of that formula, which is what the definition says.
+use mathlib.Core.Path.{_≡_, refl, sym, ap, _∙_}
+use mathlib.Core.List.{List, [], _∷_, _++_, append-nil}
+use Prim.Native.Nat.{ℕ, zero, suc, _+_, _*_, _≤_, _<_}
+use native.Mathlib.Numerals.{add-one}
+use native.Mathlib.Omega.{arith}
+use lib.ListN.{length, getD, take, drop, length-append, length-take, take-append-drop}
+use lib.Seq.{take-suc, take-at, take-length}
+use Rattle.reading.specs.Each.{Each}
+use Rattle.reading.specs.InTurn.{bytesOfAll}
+use Rattle.reading.specs.Limits.{limits}
+use Rattle.reading.specs.declared.refusal.Refusal.{Refusal}
+use Rattle.reading.proofs.Buffers.{too-short, long-enough}
+use Rattle.reading.proofs.Bytes.{AllBytes}
+use Rattle.rules.specs.Accepted.{IsRule}
+use Rattle.rules.specs.Formula.{Formula}
+use Rattle.rules.specs.Good.{InRange, postfix, postfixes}
+use Rattle.rules.specs.Items.{rowOf}
+use Rattle.rules.specs.Loading.{Items, Reading, accepted, refused, readRule, loadedOf, ruleOf, stackFrom, stackOf, timedIn}
+use Rattle.rules.specs.declared.item.Item.{Item}
+use Rattle.rules.specs.declared.load.Loaded.{Loaded}
+use Rattle.rules.specs.declared.load.Rule.{Rule}
+use Rattle.rules.proofs.Accepted.{accepted-rule, made}
+use Rattle.rules.proofs.Prefixes.{values-few, operands-there, whole-prefix}
+use Rattle.rules.proofs.Stack.{timed-append}
+use Rattle.sequencer.specs.Code.{bytesOf}
+use Rattle.reading.specs.Buffers.{over}
+use Rattle.emitter.specs.Emission.{stackCode, itemAt, itemsIn, Ready, Emits}
+use Rattle.emitter.specs.Emitting.{mostCodeBytes, bytesFor, emittedOf, outAfter}
+use Rattle.emitter.specs.Translation.{codeBytes}
+use Rattle.emitter.specs.declared.emit.Emitted.{Emitted}
+use Rattle.emitter.proofs.Sizes.{stack-length, stack-reaches, code-length}
+use Rattle.emitter.proofs.Waiting.{item-back, items-prefix, items-back}
+
+-- a rule that is loaded, and accepted with so many items
+pub record Accepts (bytes : List ℕ) (rule : Rule) (n : ℕ) : Type 0 where
+  pub items : Items
+  pub formula : Formula
+  pub read : readRule bytes ≡ accepted items formula
+  pub is-rule : IsRule bytes items formula
+  pub own : rule ≡ ruleOf (accepted items formula)
+  pub many : n ≡ length items
+
+loaded-accepted : (read : Reading) (n h : ℕ) → Loaded.Accepted n h ≡ loadedOf read → (is : Items) × (f : Formula) × (read ≡ accepted is f) × (n ≡ length is)
+loaded-accepted (accepted is f) n h e = (is, f, refl, cc)
+loaded-accepted (refused r) n h e = absurd (let z : _≡_ {A = ℕ} 0 1 = cc in omega arith)
+
+pub accepts : (bytes : List ℕ) (rule : Rule) (n h : ℕ) → AllBytes bytes → rule ≡ ruleOf (readRule bytes) → Loaded.Accepted n h ≡ rule .loaded → Accepts bytes rule n
+unfolding ruleOf
+accepts bytes rule n h small own e =
+    let (is, f, read, many) = loaded-accepted (readRule bytes) n h (e ∙ ap (λ r. r .loaded) own) in
+    record {
+      items = is;
+      formula = f;
+      read = read;
+      is-rule = accepted-rule bytes is f small read;
+      own = own ∙ ap ruleOf read;
+      many = many;
+    }
+
+-- Each of a rule's items can be emitted
+
+-- an element of a list has what each has
+each-at : {A : Type 0} (P : A → Type 0) (xs : List A) (d : A) (k : ℕ) → Each P xs → k < length xs → P (getD xs k d)
+each-at P [] d k e h = absurd (omega arith)
+each-at P (x ∷ xs) d zero e h = e .0
+each-at P (x ∷ xs) d (suc k) e h = each-at P xs d k (e .1) (omega arith)
+
+-- a part of the items has no more timed ones than all
+timed-part : (k : ℕ) (is : Items) → timedIn (take k is) ≤ timedIn is
+timed-part k is = omega (arith, timed-append (take k is) (drop k is), ap timedIn (take-append-drop k is))
+
+module _ (bytes : List ℕ) (f : Formula) (r : IsRule bytes (postfix f) f) where
+  -- the code of the first items is within the bounds
+  part-code : (k : ℕ) → let code = stackCode (stackOf (take k (postfix f))) in (length (bytesOfAll bytesOf code) ≤ mostCodeBytes) × (length code ≤ limits .instructions)
+  part-code k =
+      let is = take k (postfix f) in
+      let st = stackOf is in
+      let whole = whole-prefix f k in
+      let few : length is ≤ limits .items = omega (arith, length-take k (postfix f), r .items) in
+      let timed : timedIn is ≤ limits .timed = omega (arith, timed-part k (postfix f), r .timed) in
+      let long : length (stackCode st) ≤ 3 * length is + 2 * timedIn is = rw whole at (stack-length st) in
+      let reaches = rw whole at (stack-reaches st) in
+      (omega (arith, code-length (stackCode st)), omega arith)
+
+  ready : (k : ℕ) → k < length (postfix f) → Ready (take k (postfix f)) (getD (postfix f) k Item.True)
+  ready k h =
+      let (short, few) = rw (take-suc (postfix f) k Item.True h) at (part-code (suc k)) in
+      record {
+        window = each-at InRange (postfix f) Item.True k (r .ranges) h .window;
+        operands = operands-there f k h;
+        values = values-few (take k (postfix f));
+        bytes = short;
+        instructions = few;
+      }
+
+module _ (bytes : List ℕ) (rule : Rule) (n : ℕ) (a : Accepts bytes rule n) where
+  pub emits : (out : List ℕ) → length out ≡ mostCodeBytes → Emits rule n out
+  emits out e =
+      let is = a .items in
+      let f = a .formula in
+      let r = a .is-rule in
+      rw (a .own, a .many)
+      (record {
+        few = r .items;
+        ready = λ k h. rw (items-prefix is f k (omega arith), item-back is f k h, r .own-items) (ready bytes f (rw (r .own-items) at r) k (rw (r .own-items) at h));
+        room = omega arith;
+      })
+
+  -- what the items make in order is the code of the formula
+  pub own-code : bytesOfAll bytesOf (stackCode (stackOf (itemsIn rule n))) ≡ codeBytes (a .formula)
+  unfolding stackFrom stackCode
+  own-code =
+      let is = a .items in
+      let f = a .formula in
+      let value : stackOf (postfix f) ≡ f ∷ [] = rw append-nil at (made f [] []) in
+      rw (a .own, a .many, items-back is f, a .is-rule .own-items, value)
+
+  -- The answers, once the items are emitted into a buffer that holds the code
+  module _ (before : List ℕ) (wide : length before ≡ mostCodeBytes) (m : ℕ) (held : List ℕ) (w : let code = bytesOfAll bytesOf (stackCode (stackOf (itemsIn rule n))) in (m ≡ length code) × (held ≡ over code before)) where
+    own-length : m ≡ length (codeBytes (a .formula))
+    own-length = w .0 ∙ ap length own-code
+
+    own-bytes : held ≡ over (codeBytes (a .formula)) before
+    own-bytes = w .1 ∙ ap (λ code. over code before) own-code
+
+    -- the code is the first part
+    first-part : take m held ≡ codeBytes (a .formula)
+    first-part = ap (take m) own-bytes ∙ take-at (codeBytes (a .formula)) _ m (sym own-length)
+
+    pub part-inside : m ≤ length held
+    part-inside = omega (arith, ap length own-bytes, length-append (codeBytes (a .formula)) (drop (length (codeBytes (a .formula))) before), own-length)
+
+    pub part-length : m ≡ length (take m held)
+    part-length = own-length ∙ ap length (sym first-part)
+
+    module _ (out : List ℕ) where
+      pub answer-short : length out < m → Emitted.Refused Refusal.ShortOutput ≡ emittedOf (readRule bytes) out
+      answer-short h = rw (a .read, too-short out (codeBytes (a .formula)) (omega (arith, own-length)))
+
+      module _ (fits : m ≤ length out) where
+        pub part-fits : length (take m held) ≤ length out
+        part-fits = omega (arith, part-length)
+
+        pub answer-length : Emitted.Length m ≡ emittedOf (readRule bytes) out
+        answer-length = rw (a .read, long-enough out (codeBytes (a .formula)) (omega (arith, own-length)), own-length)
+
+        pub answer-bytes : (after : List ℕ) → after ≡ take (length (take m held)) (take m held) ++ drop (length (take m held)) out → after ≡ over (bytesFor (readRule bytes)) out
+        answer-bytes after e = e ∙ rw (first-part, a .read, take-length)
+
+-- a rule that is refused
+loaded-refused : (read : Reading) (r : Refusal) → Loaded.Refused r ≡ loadedOf read → read ≡ refused r
+loaded-refused (accepted is f) r e = absurd (let z : _≡_ {A = ℕ} 0 1 = cc in omega arith)
+loaded-refused (refused s) r e = cc
+
+pub answer-refused : (bytes out : List ℕ) (rule : Rule) (r : Refusal) → rule ≡ ruleOf (readRule bytes) → Loaded.Refused r ≡ rule .loaded → Emitted.Refused r ≡ emittedOf (readRule bytes) out
+unfolding ruleOf
+answer-refused bytes out rule r own e = let is = loaded-refused (readRule bytes) r (e ∙ ap (λ x. x .loaded) own) in rw is

@@ -1,0 +1,147 @@
+-- The items of a rule, emitted in order. `Stands` says where the loop stands: behind the first k items the buffer holds the code of the formulas that these make, and the bits of these
+-- wait on the stack. One item more finds its operands and room, as the rule is within the limits, and what it writes makes the code of one item more.
+use mathlib.Core.Path.{_≡_, refl, sym, ap, _∙_}
+use mathlib.Core.List.{List, [], _∷_, _++_, append-nil}
+use Prim.Native.Nat.{ℕ, zero, suc, _+_, _-_, _≤_, _<_}
+use native.Mathlib.Nat.{zero-add}
+use native.Mathlib.Numerals.{add-one}
+use native.Mathlib.Omega.{arith}
+use borrow.Author.Tests.{lt-ltb, le-ltb, le-leb}
+use lib.ListN.{length, getD, set, replicate, length-append, length-replicate}
+use Rattle.reading.specs.InTurn.{bytesOfAll}
+use Rattle.reading.specs.Limits.{limits}
+use Rattle.reading.specs.Numbers.{written}
+use Rattle.reading.proofs.InTurn.{bytes-append}
+use Rattle.reading.proofs.Written.{nothing, written-length}
+use Rattle.rules.specs.Formula.{Formula}
+use Rattle.rules.specs.Items.{rowOf}
+use Rattle.rules.specs.Loading.{stackFrom, stackOf}
+use Rattle.rules.specs.declared.item.Item.{Item}
+use Rattle.rules.specs.declared.item.Row.{Row}
+use Rattle.rules.specs.declared.load.Rule.{Rule}
+use Rattle.rules.proofs.Stack.{stack-more}
+use Rattle.sequencer.specs.Code.{Code, bytesOf}
+use Rattle.reading.specs.Buffers.{over}
+use Rattle.emitter.specs.Emission.{stackCode, fromTop, ownCode, nextOf, Next, itemAt, itemsIn, Emits}
+use Rattle.emitter.specs.Emitting.{mostCodeBytes}
+use Rattle.emitter.specs.Translation.{itemCode}
+use Rattle.emitter.specs.Writing.{endAfter, Room, Wrote}
+use Rattle.emitter.specs.declared.emission.Emission.{Emission}
+use Rattle.emitter.specs.declared.write.End.{End}
+use Rattle.emitter.proofs.Sizes.{item-size}
+use Rattle.emitter.proofs.Waiting.{Follows, follows-none, own-code, follows-more}
+use Rattle.emitter.proofs.Writing.{room-rest, wrote-more}
+
+-- The bit below the top
+
+pub none-there : (bits : List ℕ) (depth below : ℕ) → depth < below → 0 ≡ fromTop bits depth below
+unfolding fromTop
+none-there bits depth below h = rw (lt-ltb depth below h)
+
+pub one-there : (bits : List ℕ) (depth below : ℕ) → below ≤ depth → getD bits (depth - below) 0 ≡ fromTop bits depth below
+unfolding fromTop
+one-there bits depth below h = rw (le-ltb depth below h)
+
+-- One item more
+
+module _ (out : List ℕ) (e : Emission) (item : Item) (next : Next out e item) (left right : ℕ) (l : left ≡ fromTop (e .bits) (e .depth) 2) (r : right ≡ fromTop (e .bits) (e .depth) 1) where
+  pub next-ready : (rowOf item .lower ≤ rowOf item .upper) × Room out (e .end) (itemCode (e .end .count) item left right)
+  unfolding ownCode
+  next-ready = (next .window, rw (l, r) (next .room))
+
+  module _ (after : List ℕ) (end : End) (w : Wrote out (e .end) (itemCode (e .end .count) item left right) after end) where
+    -- it has an instruction, and so a last bit
+    pub next-bit : 1 ≤ end .count
+    unfolding endAfter
+    next-bit = omega (arith, ap (λ x. x .count) (w .own-end), item-size (e .end .count) item left right .0)
+
+    pub next-wrote : (row : Row) → row ≡ rowOf item → (record { end = end; bits = set (e .bits) (e .depth - row .operands) (end .count - 1); depth = e .depth - row .operands + 1 } ≡ nextOf e item) × Wrote out (e .end) (ownCode e item) after end
+    unfolding ownCode nextOf
+    next-wrote row own =
+        let v : Wrote out (e .end) (ownCode e item) after end = rw (← l, ← r) w in
+        (rw (own, ← v .own-end), v)
+
+-- The items in order
+
+items-length : (rule : Rule) (k : ℕ) → length (itemsIn rule k) ≡ k
+unfolding itemsIn
+items-length rule zero = refl
+items-length rule (suc k) = rw length-append (omega (arith, items-length rule k))
+
+abbrev start : End
+start = record { at = 0; count = 0 }
+
+pub record Stands (rule : Rule) (before : List ℕ) (k : ℕ) (out : List ℕ) (e : Emission) : Type 0 where
+  pub follows : Follows e (stackOf (itemsIn rule k))
+  pub wrote : Wrote before start (stackCode (stackOf (itemsIn rule k))) out (e .end)
+
+pub stands-first : (rule : Rule) (out bits : List ℕ) → length bits ≡ limits .items → Stands rule out 0 out (record { end = start; bits = bits; depth = 0 })
+unfolding itemsIn stackFrom stackCode bytesOfAll
+stands-first rule out bits h =
+    let f = follows-none bits h in
+    record { follows = f; wrote = record { own-bytes = nothing out 0 .0; own-end = f .end } }
+
+-- the buffer stays as long as it is
+pub stands-length : (rule : Rule) (before : List ℕ) (k : ℕ) (out : List ℕ) (e : Emission) → Stands rule before k out e → length out ≡ length before
+stands-length rule before k out e s = ap length (s .wrote .own-bytes) ∙ written-length before 0 _
+
+module _ (rule : Rule) (n : ℕ) (before : List ℕ) (emits : Emits rule n before) where
+  module _ (k : ℕ) (out : List ℕ) (e : Emission) (s : Stands rule before k out e) (inside : k < n) where
+    -- the formulas that wait, and the item
+    abbrev st : List Formula
+    st = stackOf (itemsIn rule k)
+
+    abbrev item : Item
+    item = itemAt rule k
+
+    -- with its own code, the code of one item more
+    grown : stackCode (stackOf (itemsIn rule k ++ item ∷ [])) ≡ stackCode st ++ ownCode e item
+    grown = rw stack-more (own-code e st item (s .follows) (emits .ready k inside .operands))
+
+    room : Room before start (stackCode st ++ ownCode e item)
+    room =
+        let ready = emits .ready k inside in
+        rw (← grown) (record { bytes = omega (arith, ready .bytes, emits .room); numbers = omega (arith, ready .instructions) })
+
+    pub stands-next : (i : Item) → i ≡ item → Next out e i
+    stands-next i own =
+        let ready = emits .ready k inside in
+        let depth = s .follows .depth in
+        let few = emits .few in
+        rw own
+        (record {
+          window = ready .window;
+          operands = omega (arith, ready .operands);
+          depth = omega (arith, ready .values, items-length rule k);
+          above = omega (arith, ready .values, items-length rule k);
+          room = room-rest before start (stackCode st) (ownCode e item) room out (e .end) (s .wrote);
+        })
+
+    pub stands-more : (i : Item) → i ≡ item → (next : Emission) (after : List ℕ) → (next ≡ nextOf e i) × Wrote out (e .end) (ownCode e i) after (next .end) → Stands rule before (k + 1) after next
+    unfolding itemsIn
+    stands-more i own next after done =
+        let (is, w) = rw own at done in
+        let ready = emits .ready k inside in
+        let few = emits .few in
+        let follows = follows-more e st item (s .follows) (ready .operands) (omega (arith, ready .values, items-length rule k)) in
+        rw add-one
+        (record {
+          follows = rw (stack-more, is) follows;
+          wrote = rw grown (wrote-more before start (stackCode st) (ownCode e item) room out (e .end) (s .wrote) after (next .end) w);
+        })
+
+  -- all the code has room
+  whole : length (bytesOfAll bytesOf (stackCode (stackOf (itemsIn rule n)))) ≤ length before
+  unfolding itemsIn stackFrom stackCode bytesOfAll
+  whole = go n refl
+    where
+      go : (m : ℕ) → m ≡ n → length (bytesOfAll bytesOf (stackCode (stackOf (itemsIn rule m)))) ≤ length before
+      go zero e = omega arith
+      go (suc m) e = omega (arith, emits .ready m (omega arith) .bytes, emits .room)
+
+  pub stands-all : (k : ℕ) (out : List ℕ) (e : Emission) → Stands rule before k out e → k ≡ n → let code = bytesOfAll bytesOf (stackCode (stackOf (itemsIn rule n))) in (e .end .at ≡ length code) × (out ≡ over code before)
+  unfolding endAfter written
+  stands-all k out e s all =
+      let w = rw all at (s .wrote) in
+      let fits = whole in
+      (ap (λ x. x .at) (w .own-end) ∙ zero-add _, w .own-bytes ∙ simp (zero-add, le-leb, fits))

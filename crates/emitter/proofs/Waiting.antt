@@ -1,0 +1,160 @@
+-- Emitting item by item. The code so far is that of the formulas that wait, and their bits are stacked in the array; so an item reads its operands' bits there, its own code
+-- makes the code of the new stack, and its last bit takes their place. The items of a loaded rule are those that its columns were made of.
+use mathlib.Core.Path.{_≡_, refl, sym, ap, _∙_}
+use mathlib.Core.List.{List, [], _∷_, _++_, map}
+use Prim.Native.Nat.{ℕ, zero, suc, _+_, _-_, _≤_, _<_}
+use native.Mathlib.Omega.{arith}
+use borrow.Author.Tests.{le-ltb}
+use lib.ListN.{length, getD, take, drop, length-append, length-set}
+use lib.Seq.{take-suc, take-length}
+use Rattle.reading.specs.InTurn.{bytesOfAll}
+use Rattle.reading.specs.Limits.{limits}
+use Rattle.reading.proofs.Padded.{getD-padded}
+use Rattle.rules.specs.Formula.{Formula}
+use Rattle.rules.specs.Items.{rowOf, itemOf, apply}
+use Rattle.rules.specs.Loading.{Items, accepted, column, ruleOf}
+use Rattle.rules.specs.Walking.{Stacked}
+use Rattle.rules.specs.declared.item.Item.{Item}
+use Rattle.rules.specs.declared.item.Row.{Row}
+use Rattle.rules.proofs.Stack.{applied}
+use Rattle.rules.proofs.Walking.{stacked-drop, stacked-push}
+use Rattle.sequencer.specs.Code.{Code, bytesOf}
+use Rattle.emitter.specs.Emission.{stackCode, bitsOf, fromTop, ownCode, nextOf, itemAt, itemsIn}
+use Rattle.emitter.specs.Translation.{itemCode, last, behind, afterTwo, translate}
+use Rattle.emitter.specs.Writing.{endAfter}
+use Rattle.emitter.proofs.Writing.{end-append}
+use Rattle.emitter.specs.declared.emission.Emission.{Emission}
+use Rattle.emitter.specs.declared.write.End.{End}
+
+-- Where emitting stands for the formulas that wait
+pub record Follows (e : Emission) (st : List Formula) : Type 0 where
+  pub end : e .end ≡ endAfter (record { at = 0; count = 0 }) (stackCode st)
+  pub bits : Stacked (e .bits) (bitsOf st)
+  pub depth : e .depth ≡ length st
+  pub room : length (e .bits) ≡ limits .items
+
+-- emitting before the first item
+pub follows-none : (bits : List ℕ) → length bits ≡ limits .items → Follows (record { end = record { at = 0; count = 0 }; bits = bits; depth = 0 }) []
+unfolding endAfter stackCode bitsOf Stacked bytesOfAll
+follows-none bits h = record { end = refl; bits = tt; depth = refl; room = h }
+
+-- as many bits as formulas
+bits-length : (st : List Formula) → length (bitsOf st) ≡ length st
+unfolding bitsOf
+bits-length [] = refl
+bits-length (f ∷ st) = ap suc (bits-length st)
+
+bits-drop : (n : ℕ) (st : List Formula) → bitsOf (drop n st) ≡ drop n (bitsOf st)
+unfolding bitsOf
+bits-drop zero st = refl
+bits-drop (suc n) [] = refl
+bits-drop (suc n) (f ∷ st) = bits-drop n st
+
+-- the number of instructions
+count-of : (end : End) (st : List Formula) → end ≡ endAfter (record { at = 0; count = 0 }) (stackCode st) → end .count ≡ length (stackCode st)
+unfolding endAfter
+count-of end st h = omega (arith, ap (λ x. x .count) h)
+
+-- the bit below so many others
+bit-below : (e : Emission) (n : ℕ) (st : List Formula) (x : ℕ) → e .depth ≡ n + length st → getD (e .bits) (length (bitsOf st)) 0 ≡ x → fromTop (e .bits) (e .depth) n ≡ x
+unfolding fromTop
+bit-below e n st x d g =
+    let there : n ≤ e .depth = omega arith in
+    let place : e .depth - n ≡ length (bitsOf st) = omega (arith, bits-length st) in
+    simp (le-ltb, place) g
+
+-- the code of an item whose operands, one or two, are on top
+behind-one : (e : Emission) (f : Formula) (st : List Formula) (i : Item) → Follows e (f ∷ st)
+    → behind (stackCode (f ∷ st)) i (fromTop (e .bits) (e .depth) 2) (last (stackCode (f ∷ st))) ≡ stackCode (f ∷ st) ++ ownCode e i
+unfolding bitsOf Stacked ownCode
+behind-one e f st i s = cc (count-of (e .end) (f ∷ st) (s .end), bit-below e 1 st _ (omega (arith, s .depth)) (s .bits .0))
+
+behind-two : (e : Emission) (g f : Formula) (st : List Formula) (i : Item) → Follows e (g ∷ f ∷ st)
+    → afterTwo (stackCode (f ∷ st)) (stackCode (g ∷ f ∷ st)) i ≡ stackCode (g ∷ f ∷ st) ++ ownCode e i
+unfolding bitsOf Stacked
+behind-two e g f st i s =
+    let left = bit-below e 2 st _ (omega (arith, s .depth)) (s .bits .1 .0) in
+    rw left at (behind-one e g (f ∷ st) i s)
+
+-- An item's own code behind the code of the stack is the code of the new stack
+pub own-code : (e : Emission) (st : List Formula) (i : Item) → Follows e st → rowOf i .operands ≤ length st → stackCode (apply i st) ≡ stackCode st ++ ownCode e i
+unfolding apply stackCode translate ownCode itemCode
+own-code e st Item.True s h = refl
+own-code e st Item.False s h = cc (count-of (e .end) st (s .end))
+own-code e st (Item.Flag k) s h = refl
+own-code e [] Item.Not s h = absurd (omega arith)
+own-code e (f ∷ st) Item.Not s h = behind-one e f st Item.Not s
+own-code e [] (Item.Eventually a b) s h = absurd (omega arith)
+own-code e (f ∷ st) (Item.Eventually a b) s h = behind-one e f st (Item.Eventually a b) s
+own-code e [] (Item.Globally a b) s h = absurd (omega arith)
+own-code e (f ∷ st) (Item.Globally a b) s h = behind-one e f st (Item.Globally a b) s
+own-code e [] Item.And s h = absurd (omega arith)
+own-code e (g ∷ []) Item.And s h = absurd (omega arith)
+own-code e (g ∷ f ∷ st) Item.And s h = behind-two e g f st Item.And s
+own-code e [] Item.Or s h = absurd (omega arith)
+own-code e (g ∷ []) Item.Or s h = absurd (omega arith)
+own-code e (g ∷ f ∷ st) Item.Or s h = behind-two e g f st Item.Or s
+own-code e [] (Item.Until a b) s h = absurd (omega arith)
+own-code e (g ∷ []) (Item.Until a b) s h = absurd (omega arith)
+own-code e (g ∷ f ∷ st) (Item.Until a b) s h = behind-two e g f st (Item.Until a b) s
+own-code e [] (Item.Release a b) s h = absurd (omega arith)
+own-code e (g ∷ []) (Item.Release a b) s h = absurd (omega arith)
+own-code e (g ∷ f ∷ st) (Item.Release a b) s h = behind-two e g f st (Item.Release a b) s
+
+-- Emitting with one item more
+pub follows-more : (e : Emission) (st : List Formula) (i : Item) → Follows e st → rowOf i .operands ≤ length st → length st - rowOf i .operands < limits .items → Follows (nextOf e i) (apply i st)
+unfolding nextOf bitsOf
+follows-more e st i s h room =
+    let a = applied i st h in
+    let n = rowOf i .operands in
+    let end : endAfter (e .end) (ownCode e i) ≡ endAfter (record { at = 0; count = 0 }) (stackCode (apply i st)) =
+    ap (λ x. endAfter x (ownCode e i)) (s .end) ∙ end-append _ (stackCode st) (ownCode e i) ∙ ap (endAfter _) (sym (own-code e st i s h)) in
+    let top : endAfter (e .end) (ownCode e i) .count - 1 ≡ last (stackCode (a .value ∷ a .rest)) =
+    ap (λ k. k - 1) (rw (a .gives) at (count-of _ (apply i st) end)) in
+    let rest : Stacked (e .bits) (bitsOf (a .rest)) = rw (a .tail, bits-drop) (stacked-drop (e .bits) n (bitsOf st) (s .bits)) in
+    let bottom : e .depth - n ≡ length (bitsOf (a .rest)) = omega (arith, s .depth, a .left, bits-length (a .rest)) in
+    record {
+      end = end;
+      bits = rw (a .gives, ← top) (stacked-push (e .bits) (bitsOf (a .rest)) _ _ bottom (omega (arith, s .depth, s .room)) rest);
+      depth = rw (a .gives) (omega (arith, s .depth, a .left));
+      room = rw length-set (s .room);
+    }
+
+-- an item's numbers give the item back
+row-back : (i : Item) → itemOf (rowOf i .code) (rowOf i .flag) (rowOf i .lower) (rowOf i .upper) ≡ i
+unfolding itemOf
+row-back Item.True = refl
+row-back Item.False = refl
+row-back (Item.Flag k) = refl
+row-back Item.Not = refl
+row-back Item.And = refl
+row-back Item.Or = refl
+row-back (Item.Until a b) = refl
+row-back (Item.Release a b) = refl
+row-back (Item.Eventually a b) = refl
+row-back (Item.Globally a b) = refl
+
+-- a column's element is its item's number
+map-at : (g : Item → ℕ) (is : Items) (k : ℕ) → k < length is → getD (map g is) k 0 ≡ g (getD is k Item.True)
+map-at g [] k h = absurd (omega arith)
+map-at g (i ∷ is) zero h = refl
+map-at g (i ∷ is) (suc k) h = map-at g is k (omega arith)
+
+column-at : (f : Row → ℕ) (is : Items) (k : ℕ) → k < length is → getD (column f is) k 0 ≡ f (rowOf (getD is k Item.True))
+column-at f is k h = getD-padded (limits .items) (map (λ i. f (rowOf i)) is) k ∙ map-at (λ i. f (rowOf i)) is k h
+
+-- The items of a rule that was loaded: one, the first so many, and all of them
+module _ (is : Items) (f : Formula) where
+  pub item-back : (k : ℕ) → k < length is → itemAt (ruleOf (accepted is f)) k ≡ getD is k Item.True
+  unfolding itemAt ruleOf
+  item-back k h =
+      rw (column-at (λ r. r .code) is k h, column-at (λ r. r .flag) is k h, column-at (λ r. r .lower) is k h, column-at (λ r. r .upper) is k h)
+      (row-back (getD is k Item.True))
+
+  pub items-prefix : (k : ℕ) → k ≤ length is → itemsIn (ruleOf (accepted is f)) k ≡ take k is
+  unfolding itemsIn
+  items-prefix zero h = refl
+  items-prefix (suc k) h = rw (items-prefix k (omega arith), item-back k (omega arith), take-suc is k Item.True (omega arith))
+
+  pub items-back : itemsIn (ruleOf (accepted is f)) (length is) ≡ is
+  items-back = items-prefix (length is) (omega arith) ∙ take-length is

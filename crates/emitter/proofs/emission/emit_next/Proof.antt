@@ -1,0 +1,54 @@
+-- `emit_next` meets its contract: the operands are the bits on top, and the item's own last bit takes their place.
+use Rattle.emitter.proofs.InOrder.{next-ready, next-bit, next-wrote}
+use borrow.Author.Needs.{needs}
+use Rattle.emitter.proofs.emission.emit_next.Statement.{statement}
+use Rattle.emitter.proofs.emission.emit_next.Tie as tie
+
+from-top-requires : tie.Need-from-top-requires
+from-top-requires c κs = search needs
+
+from-top-requires-2 : tie.Need-from-top-requires-2
+from-top-requires-2 c κs = search needs
+
+emit-item-requires : tie.Need-emit-item-requires
+emit-item-requires c κs = next-ready _ _ _ (c .before .before .before .before .before .pre) _ _ (c .before .before .from-top .ensures) (c .before .from-top2 .ensures)
+
+row-of-requires : tie.Need-row-of-requires
+row-of-requires c κs = search needs
+
+sub-bottom : tie.Need-sub-bottom
+sub-bottom c = rw (c .before .row-of .ensures) (c .before .before .before .before .before .before .before .before .before .before .pre .operands)
+
+sub-bits : tie.Need-sub-bits
+sub-bits c = next-bit _ _ _ (c .before .before .before .before .before .before .before .before .before .before .before .pre) _ _ (c .before .before .before .before .before .before .before .before .from-top .ensures) (c .before .before .before .before .before .before .before .from-top2 .ensures) _ _ (c .before .before .before .before .before .emit-item .ensures)
+
+mul-bits : tie.Need-mul-bits
+mul-bits c = search needs
+
+array-write-bits : tie.Need-array-write-bits
+array-write-bits c = rw (c .before .before .row-of .ensures) (c .before .before .before .before .before .before .before .before .before .before .before .pre .depth)
+
+add-t15 : tie.Need-add-t15
+add-t15 c = search needs
+
+same-length : tie.Need-same-length
+same-length c = search needs
+
+returns : tie.Need-returns
+returns c = next-wrote _ _ _ (c .before .before .before .before .before .before .before .before .before .before .before .pre) _ _ (c .before .before .before .before .before .before .before .before .from-top .ensures) (c .before .before .before .before .before .before .before .from-top2 .ensures) _ _ (c .before .before .before .before .before .emit-item .ensures) _ (c .before .before .row-of .ensures)
+
+pub emit-next-spec : {M : Type 1} → statement M
+emit-next-spec =
+    tie.close
+    (tie.spec
+    from-top-requires
+    from-top-requires-2
+    emit-item-requires
+    row-of-requires
+    sub-bottom
+    sub-bits
+    mul-bits
+    array-write-bits
+    add-t15
+    same-length
+    returns)

@@ -1,0 +1,40 @@
+-- `emit_globally` meets its contract: ONE, N, and a timed item's instructions by their numbers, inverted.
+use Rattle.sequencer.specs.Code.{One}
+use Rattle.emitter.specs.Translation.{N, itemCode}
+use Rattle.emitter.proofs.Writing.{then-not-timed, first-room, second-room, third-room, third-wrote}
+use borrow.Author.Needs.{needs}
+use Rattle.emitter.proofs.item.emit_globally.Statement.{statement}
+use Rattle.emitter.proofs.item.emit_globally.Tie as tie
+
+one-requires : tie.Need-one-requires
+unfolding itemCode
+one-requires c κs = first-room _ _ One (N _) (then-not-timed _ _ _ _) (c .before .before .pre .1)
+
+nand-requires : tie.Need-nand-requires
+unfolding itemCode
+nand-requires c κs = second-room _ _ One (N _) (then-not-timed _ _ _ _) (c .before .before .before .before .before .before .pre .1) _ _ (c .before .before .before .one .ensures)
+
+add-emit-not-timed : tie.Need-add-emit-not-timed
+add-emit-not-timed c = search needs
+
+emit-not-timed-requires : tie.Need-emit-not-timed-requires
+unfolding itemCode
+emit-not-timed-requires c κs = (c .before .before .before .before .before .before .before .before .before .before .pre .0, third-room _ _ One (N _) (then-not-timed _ _ _ _) (c .before .before .before .before .before .before .before .before .before .before .pre .1) _ _ (c .before .before .before .before .before .before .before .one .ensures) _ _ (c .before .before .before .nand .ensures))
+
+same-length : tie.Need-same-length
+same-length c = search needs
+
+returns : tie.Need-returns
+unfolding itemCode
+returns c = third-wrote _ _ One (N _) (then-not-timed _ _ _ _) (c .before .before .before .before .before .before .before .before .before .before .before .before .before .pre .1) _ _ (c .before .before .before .before .before .before .before .before .before .before .one .ensures) _ _ (c .before .before .before .before .before .before .nand .ensures) _ _ (c .before .before .emit-not-timed .ensures)
+
+pub emit-globally-spec : {M : Type 1} → statement M
+emit-globally-spec =
+    tie.close
+    (tie.spec
+    one-requires
+    nand-requires
+    add-emit-not-timed
+    emit-not-timed-requires
+    same-length
+    returns)

@@ -1,0 +1,36 @@
+-- `later` meets its contract: its numbers are written one behind the other.
+use mathlib.Core.Path.{refl}
+use Rattle.sequencer.specs.Code.{Later}
+use Rattle.emitter.proofs.Writing.{wrote}
+use borrow.Author.Needs.{needs}
+use Rattle.emitter.proofs.write.later.Statement.{statement}
+use Rattle.emitter.proofs.write.later.Tie as tie
+
+write-number-requires : tie.Need-write-number-requires
+write-number-requires c κs = search needs
+
+write-number-requires-2 : tie.Need-write-number-requires-2
+write-number-requires-2 c κs = search needs
+
+write-number-requires-3 : tie.Need-write-number-requires-3
+write-number-requires-3 c κs = search needs
+
+add-count : tie.Need-add-count
+add-count c = search needs
+
+same-length : tie.Need-same-length
+same-length c = search needs
+
+returns : tie.Need-returns
+returns c = wrote (Later _ _) _ _ _ _ (c .before .before .before .before .before .before .before .before .before .before .before .before .before .before .pre) (_, _, c .before .before .before .before .before .before .before .before .before .before .before .write-number .ensures, (_, _, c .before .before .before .before .before .before .before .write-number2 .ensures, (_, _, c .before .before .before .write-number3 .ensures, (refl, refl))))
+
+pub later-spec : {M : Type 1} → statement M
+later-spec =
+    tie.close
+    (tie.spec
+    write-number-requires
+    write-number-requires-2
+    write-number-requires-3
+    add-count
+    same-length
+    returns)

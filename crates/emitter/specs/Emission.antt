@@ -1,0 +1,76 @@
+-- How emitting stands for the formulas that wait on the stack. Contracts of inner functions cite it; `emit` says nothing of it.
+use mathlib.Core.Path.{_≡_}
+use mathlib.Core.Bool.{cond}
+use mathlib.Core.List.{List, [], _∷_, _++_}
+use Prim.Native.Nat.{ℕ, zero, suc, _+_, _-_, _≤_, _<_}
+use lib.Dec.{ltb}
+use lib.ListN.{length, getD, set}
+use Rattle.reading.specs.InTurn.{bytesOfAll}
+use Rattle.reading.specs.Limits.{limits}
+use Rattle.rules.specs.Formula.{Formula}
+use Rattle.rules.specs.Items.{rowOf, itemOf}
+use Rattle.rules.specs.Loading.{Items, stackOf}
+use Rattle.rules.specs.declared.item.Item.{Item}
+use Rattle.rules.specs.declared.load.Rule.{Rule}
+use Rattle.sequencer.specs.Code.{Code, bytesOf}
+use Rattle.emitter.specs.Emitting.{mostCodeBytes}
+use Rattle.emitter.specs.Translation.{itemCode, last, translate}
+use Rattle.emitter.specs.Writing.{endAfter, Room}
+use Rattle.emitter.specs.declared.emission.Emission.{Emission}
+
+-- The code of the formulas that wait, the last one first
+unfoldable pub stackCode : List Formula → Code
+stackCode [] = []
+stackCode (f ∷ st) = translate (stackCode st) f
+
+-- The numbers of their bits
+unfoldable pub bitsOf : List Formula → List ℕ
+bitsOf [] = []
+bitsOf (f ∷ st) = last (stackCode (f ∷ st)) ∷ bitsOf st
+
+-- The bit that stands so far below the top of a stack; 0 if there are not so many
+unfoldable pub fromTop : List ℕ → ℕ → ℕ → ℕ
+fromTop bits depth below = cond (ltb depth below) 0 (getD bits (depth - below) 0)
+
+-- The instructions of an item whose operands are the last values
+unfoldable pub ownCode : Emission → Item → Code
+ownCode e item = itemCode (e .end .count) item (fromTop (e .bits) (e .depth) 2) (fromTop (e .bits) (e .depth) 1)
+
+-- Emitting with one item more, which puts its own bit in the place of its operands'
+unfoldable pub nextOf : Emission → Item → Emission
+nextOf e item =
+    let end = endAfter (e .end) (ownCode e item) in
+    let bottom = e .depth - rowOf item .operands in
+    record { end = end; bits = set (e .bits) bottom (end .count - 1); depth = bottom + 1 }
+
+-- One item more has its operands, a window that is one, and room
+pub record Next (out : List ℕ) (e : Emission) (item : Item) : Type 0 where
+  pub window : rowOf item .lower ≤ rowOf item .upper
+  pub operands : rowOf item .operands ≤ e .depth
+  pub depth : e .depth - rowOf item .operands < limits .items
+  pub above : e .depth ≤ limits .items
+  pub room : Room out (e .end) (ownCode e item)
+
+-- The item that stands in a rule's columns
+unfoldable pub itemAt : Rule → ℕ → Item
+itemAt rule k =
+    itemOf (getD (rule .codes) k 0) (getD (rule .flags) k 0) (getD (rule .lowers) k 0) (getD (rule .uppers) k 0)
+
+-- The first so many of them
+unfoldable pub itemsIn : Rule → ℕ → Items
+itemsIn rule zero = []
+itemsIn rule (suc n) = itemsIn rule n ++ itemAt rule n ∷ []
+
+-- An item that can be emitted behind those before it
+pub record Ready (before : Items) (item : Item) : Type 0 where
+  pub window : rowOf item .lower ≤ rowOf item .upper
+  pub operands : rowOf item .operands ≤ length (stackOf before)
+  pub values : length (stackOf before) ≤ length before
+  pub bytes : length (bytesOfAll bytesOf (stackCode (stackOf (before ++ item ∷ [])))) ≤ mostCodeBytes
+  pub instructions : length (stackCode (stackOf (before ++ item ∷ []))) ≤ limits .instructions
+
+-- A rule of so many items that can be emitted into a buffer, one after the other
+pub record Emits (rule : Rule) (n : ℕ) (out : List ℕ) : Type 0 where
+  pub few : n ≤ limits .items
+  pub ready : (k : ℕ) → k < n → Ready (itemsIn rule k) (itemAt rule k)
+  pub room : mostCodeBytes ≤ length out

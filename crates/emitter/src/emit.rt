@@ -1,0 +1,46 @@
+// The emitter: a rule's bytes in, sequencer code out.
+ghost use mathlib.Core.Path.{_≡_};
+ghost use Rattle.rules.specs.Loading.{readRule};
+ghost use Rattle.emitter.specs.Emitting.{mostCodeBytes, emittedOf, outAfter};
+use crate::emission::emit_items;
+use bytes::copy;
+use reading::refusal::Refusal;
+use rules::load::Loaded;
+use rules::load::decode;
+
+// The most bytes of emitted code: a buffer of so many always holds it.
+pub const MOST_CODE: usize = 1_152;
+
+// What emitting answers: the length of the code, or the refusal.
+pub enum Emitted {
+    Length(usize),
+    Refused(Refusal),
+}
+
+// The most bytes of emitted code, as a value.
+pub fn most_code() -> usize
+    ensures { λ r. ⌜ r ≡ mostCodeBytes ⌝ }
+{
+    MOST_CODE
+}
+
+// Emits the code of a rule into a buffer, from its first byte on; the bytes behind the code stay. A refusal, of the rule, then 16, changes
+// nothing.
+pub fn emit(rule: &[u8], out: &mut [u8]) -> Emitted
+    ensures { λ r. ⌜ (r ≡ emittedOf (readRule (now (rule .entry))) (now (out .entry))) × (now (out .exit) ≡ outAfter r (readRule (now (rule .entry))) (now (out .entry))) ⌝ }
+{
+    let read = decode(rule);
+    let loaded = read.loaded;
+    match loaded {
+        Loaded::Accepted { items, horizon: _ } => {
+            let mut code = [0; MOST_CODE];
+            let length = emit_items(read, items, &mut code);
+            if out.len() < length {
+                return Emitted::Refused(Refusal::ShortOutput);
+            }
+            copy(&code[..length], out);
+            Emitted::Length(length)
+        }
+        Loaded::Refused(refusal) => Emitted::Refused(refusal),
+    }
+}

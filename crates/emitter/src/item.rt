@@ -1,0 +1,102 @@
+// The instructions of each item, by the numbers of its operands' bits: document 01's table of emitted code.
+ghost use Prim.Native.Nat.{_≤_};
+ghost use Rattle.rules.specs.Items.{rowOf};
+ghost use Rattle.rules.specs.declared.item.Item.{Item};
+ghost use Rattle.emitter.specs.Translation.{thenN, timed, itemCode};
+ghost use Rattle.emitter.specs.Writing.{Room, Wrote};
+use crate::write::End;
+use crate::write::flag;
+use crate::write::invert;
+use crate::write::nand;
+use crate::write::one;
+use crate::write::timed;
+use rules::item::Item;
+
+// False: ONE, N.
+fn emit_false(out: &mut [u8], end: End) -> End
+    requires { ⌜ Room (now out) end (itemCode (end .count) Item.False 0 0) ⌝ }
+    ensures { λ r. ⌜ Wrote (now (out .entry)) end (itemCode (end .count) Item.False 0 0) (now (out .exit)) r ⌝ }
+{
+    let e = one(&mut *out, end);
+    invert(out, e)
+}
+
+// And: NAND, N.
+fn emit_and(out: &mut [u8], end: End, left: u16, right: u16) -> End
+    requires { ⌜ Room (now out) end (itemCode (end .count) Item.And left right) ⌝ }
+    ensures { λ r. ⌜ Wrote (now (out .entry)) end (itemCode (end .count) Item.And left right) (now (out .exit)) r ⌝ }
+{
+    let e = nand(&mut *out, end, left, right);
+    invert(out, e)
+}
+
+// Or: N left, N right, NAND of the two.
+fn emit_or(out: &mut [u8], end: End, left: u16, right: u16) -> End
+    requires { ⌜ Room (now out) end (itemCode (end .count) Item.Or left right) ⌝ }
+    ensures { λ r. ⌜ Wrote (now (out .entry)) end (itemCode (end .count) Item.Or left right) (now (out .exit)) r ⌝ }
+{
+    let n = end.count;
+    let e = nand(&mut *out, end, left, left);
+    let f = nand(&mut *out, e, right, right);
+    nand(out, f, n, n + 1)
+}
+
+// REACH of two bits b−a, LATER a, N.
+fn emit_not_timed(out: &mut [u8], end: End, i: u16, j: u16, a: u16, b: u16) -> End
+    requires { ⌜ (a ≤ b) × Room (now out) end (thenN (end .count) (timed (end .count) i j a b)) ⌝ }
+    ensures { λ r. ⌜ Wrote (now (out .entry)) end (thenN (end .count) (timed (end .count) i j a b)) (now (out .exit)) r ⌝ }
+{
+    let e = timed(&mut *out, end, i, j, a, b);
+    invert(out, e)
+}
+
+// Release: N left, N right, REACH of the two b−a, LATER a, N.
+fn emit_release(out: &mut [u8], end: End, left: u16, right: u16, a: u16, b: u16) -> End
+    requires { ⌜ (a ≤ b) × Room (now out) end (itemCode (end .count) (Item.Release a b) left right) ⌝ }
+    ensures { λ r. ⌜ Wrote (now (out .entry)) end (itemCode (end .count) (Item.Release a b) left right) (now (out .exit)) r ⌝ }
+{
+    let n = end.count;
+    let e = nand(&mut *out, end, left, left);
+    let f = nand(&mut *out, e, right, right);
+    emit_not_timed(out, f, n, n + 1, a, b)
+}
+
+// Eventually: ONE, REACH that and the operand b−a, LATER a.
+fn emit_eventually(out: &mut [u8], end: End, right: u16, a: u16, b: u16) -> End
+    requires { ⌜ (a ≤ b) × Room (now out) end (itemCode (end .count) (Item.Eventually a b) 0 right) ⌝ }
+    ensures { λ r. ⌜ Wrote (now (out .entry)) end (itemCode (end .count) (Item.Eventually a b) 0 right) (now (out .exit)) r ⌝ }
+{
+    let n = end.count;
+    let e = one(&mut *out, end);
+    timed(out, e, n, right, a, b)
+}
+
+// Globally: ONE, N operand, REACH of the two b−a, LATER a, N.
+fn emit_globally(out: &mut [u8], end: End, right: u16, a: u16, b: u16) -> End
+    requires { ⌜ (a ≤ b) × Room (now out) end (itemCode (end .count) (Item.Globally a b) 0 right) ⌝ }
+    ensures { λ r. ⌜ Wrote (now (out .entry)) end (itemCode (end .count) (Item.Globally a b) 0 right) (now (out .exit)) r ⌝ }
+{
+    let n = end.count;
+    let e = one(&mut *out, end);
+    let f = nand(&mut *out, e, right, right);
+    emit_not_timed(out, f, n, n + 1, a, b)
+}
+
+// The instructions of an item. A lone operand is the right one.
+pub(crate) fn emit_item(out: &mut [u8], end: End, item: Item, left: u16, right: u16) -> End
+    requires { ⌜ (rowOf item .lower ≤ rowOf item .upper) × Room (now out) end (itemCode (end .count) item left right) ⌝ }
+    ensures { λ r. ⌜ Wrote (now (out .entry)) end (itemCode (end .count) item left right) (now (out .exit)) r ⌝ }
+{
+    match item {
+        Item::True => one(out, end),
+        Item::Flag(k) => flag(out, end, k),
+        Item::False => emit_false(out, end),
+        Item::Not => nand(out, end, right, right),
+        Item::And => emit_and(out, end, left, right),
+        Item::Or => emit_or(out, end, left, right),
+        Item::Until(a, b) => timed(out, end, left, right, a, b),
+        Item::Release(a, b) => emit_release(out, end, left, right, a, b),
+        Item::Eventually(a, b) => emit_eventually(out, end, right, a, b),
+        Item::Globally(a, b) => emit_globally(out, end, right, a, b),
+    }
+}

@@ -1,0 +1,5 @@
+// The emitter: rules as code for the sequencer.
+mod emission;
+pub mod emit;
+mod item;
+mod write;
