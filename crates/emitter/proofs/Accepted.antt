@@ -22,7 +22,7 @@ use Rattle.sequencer.specs.Rows.{rowOf}
 use Rattle.sequencer.proofs.Complete.{code-read}
 use Rattle.sequencer.proofs.Counting.{reaches-more, distance-more, good-none, good-more}
 use Rattle.emitter.specs.Emitting.{mostInstructions, mostCodeBytes}
-use Rattle.emitter.specs.Translation.{timed, itemCode, behind, afterOne, afterTwo, translate, codeFor, codeBytes}
+use Rattle.emitter.specs.Translation.{laterBy, timed, itemCode, behind, afterOne, afterTwo, translate, codeFor, codeBytes}
 use Rattle.emitter.proofs.Sizes.{Grown, grown, code-length}
 
 -- An instruction whose own numbers no test refuses, where so many are earlier
@@ -41,7 +41,7 @@ fit-append n m (i ∷ c) d e p q = (p .0, fit-append (n + 1) m c d (omega arith)
 
 -- the instructions of an item in range, whose operands, if it has any, are earlier
 item-fit : (n : ℕ) (i : Item) (left right : ℕ) → InRange i → (1 ≤ itemRow i .operands → (left < n) × (right < n)) → Fit n (itemCode n i left right)
-unfolding itemCode timed
+unfolding itemCode timed laterBy
 item-fit n Item.True left right r h = omega arith
 item-fit n Item.False left right r h = omega arith
 item-fit n (Item.Flag k) left right r h = omega arith

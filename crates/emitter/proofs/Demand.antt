@@ -1,8 +1,8 @@
 -- Demand 3. The emitter's answer and its buffer are the code of the rule's formula; that code is read back, and its output is the formula's computed meaning, which agrees with the
 -- paper's. So the byte that a run writes for a frame says whether the clip from it satisfies the rule. No one code can do that for two rules of which one always holds and one never.
-use mathlib.Core.Path.{_≡_, refl, sym, ap, _∙_}
+use mathlib.Core.Path.{_≡_, refl, ap, _∙_}
 use mathlib.Core.Bool.{Bool, true, false}
-use mathlib.Core.List.{List, [], _∷_, _++_}
+use mathlib.Core.List.{List, [], _∷_}
 use Prim.Native.Nat.{ℕ, zero, suc, _≤_, _<_}
 use native.Mathlib.Omega.{arith}
 use borrow.Author.Tests.{le-ltb, ne-eqb}

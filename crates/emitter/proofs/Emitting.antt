@@ -3,7 +3,6 @@
 use mathlib.Core.Path.{_≡_, refl, sym, ap, _∙_}
 use mathlib.Core.List.{List, [], _∷_, _++_, append-nil}
 use Prim.Native.Nat.{ℕ, zero, suc, _+_, _*_, _≤_, _<_}
-use native.Mathlib.Numerals.{add-one}
 use native.Mathlib.Omega.{arith}
 use lib.ListN.{length, getD, take, drop, length-append, length-take, take-append-drop}
 use lib.Seq.{take-suc, take-at, take-length}
@@ -11,12 +10,12 @@ use Rattle.reading.specs.Each.{Each}
 use Rattle.reading.specs.InTurn.{bytesOfAll}
 use Rattle.reading.specs.Limits.{limits}
 use Rattle.reading.specs.declared.refusal.Refusal.{Refusal}
-use Rattle.reading.proofs.Buffers.{too-short, long-enough}
+use Rattle.reading.proofs.Buffers.{too-short, long-enough, fits}
 use Rattle.reading.proofs.Bytes.{AllBytes}
+use Rattle.reading.proofs.Choices.{else-taken}
 use Rattle.rules.specs.Accepted.{IsRule}
 use Rattle.rules.specs.Formula.{Formula}
-use Rattle.rules.specs.Good.{InRange, postfix, postfixes}
-use Rattle.rules.specs.Items.{rowOf}
+use Rattle.rules.specs.Good.{InRange, postfix}
 use Rattle.rules.specs.Loading.{Items, Reading, accepted, refused, readRule, loadedOf, ruleOf, stackFrom, stackOf, timedIn}
 use Rattle.rules.specs.declared.item.Item.{Item}
 use Rattle.rules.specs.declared.load.Loaded.{Loaded}
@@ -25,11 +24,12 @@ use Rattle.rules.proofs.Accepted.{accepted-rule, made}
 use Rattle.rules.proofs.Prefixes.{values-few, operands-there, whole-prefix}
 use Rattle.rules.proofs.Stack.{timed-append}
 use Rattle.sequencer.specs.Code.{bytesOf}
-use Rattle.reading.specs.Buffers.{over}
-use Rattle.emitter.specs.Emission.{stackCode, itemAt, itemsIn, Ready, Emits}
-use Rattle.emitter.specs.Emitting.{mostCodeBytes, bytesFor, emittedOf, outAfter}
+use Rattle.reading.specs.Buffers.{tooShort, over}
+use Rattle.emitter.specs.Emission.{stackCode, itemsIn, Ready, Emits}
+use Rattle.emitter.specs.Emitting.{mostCodeBytes, bytesFor, emittedOf}
 use Rattle.emitter.specs.Translation.{codeBytes}
 use Rattle.emitter.specs.declared.emit.Emitted.{Emitted}
+use Rattle.emitter.proofs.Accepted.{code-bytes}
 use Rattle.emitter.proofs.Sizes.{stack-length, stack-reaches, code-length}
 use Rattle.emitter.proofs.Waiting.{item-back, items-prefix, items-back}
 
@@ -139,7 +139,7 @@ module _ (bytes : List ℕ) (rule : Rule) (n : ℕ) (a : Accepts bytes rule n) w
       pub answer-short : length out < m → Emitted.Refused Refusal.ShortOutput ≡ emittedOf (readRule bytes) out
       answer-short h = rw (a .read, too-short out (codeBytes (a .formula)) (omega (arith, own-length)))
 
-      module _ (fits : m ≤ length out) where
+      module _ (room : m ≤ length out) where
         pub part-fits : length (take m held) ≤ length out
         part-fits = omega (arith, part-length)
 
@@ -157,3 +157,24 @@ loaded-refused (refused s) r e = cc
 pub answer-refused : (bytes out : List ℕ) (rule : Rule) (r : Refusal) → rule ≡ ruleOf (readRule bytes) → Loaded.Refused r ≡ rule .loaded → Emitted.Refused r ≡ emittedOf (readRule bytes) out
 unfolding ruleOf
 answer-refused bytes out rule r own e = let is = loaded-refused (readRule bytes) r (e ∙ ap (λ x. x .loaded) own) in rw is
+
+-- A buffer of the most bytes that code has always suffices
+pub always-suffices : (bytes out : List ℕ) (is : Items) (f : Formula) → AllBytes bytes → readRule bytes ≡ accepted is f → mostCodeBytes ≤ length out → emittedOf (readRule bytes) out ≡ Emitted.Length (length (codeBytes f))
+always-suffices bytes out is f small read room =
+    let short = code-bytes bytes is f (accepted-rule bytes is f small read) in
+    rw (read, long-enough out (codeBytes f) (omega arith))
+
+-- A length that is answered is within the buffer
+
+apart : {r : Refusal} {n : ℕ} → Emitted.Refused r ≡ Emitted.Length n → ⊥
+apart e = let z : _≡_ {A = ℕ} 0 1 = cc in omega arith
+
+read-fits : (read : Reading) (out : List ℕ) (n : ℕ) → emittedOf read out ≡ Emitted.Length n → n ≤ length out
+read-fits (accepted is f) out n e =
+    let (room, answer) = else-taken (tooShort out (codeBytes f)) apart e in
+    let own : n ≡ length (codeBytes f) = cc in
+    omega (arith, fits out (codeBytes f) room)
+read-fits (refused r) out n e = absurd (apart e)
+
+pub length-fits : (bytes out : List ℕ) (n : ℕ) → emittedOf (readRule bytes) out ≡ Emitted.Length n → n ≤ length out
+length-fits bytes = read-fits (readRule bytes)

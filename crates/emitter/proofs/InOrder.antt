@@ -1,17 +1,16 @@
 -- The items of a rule, emitted in order. `Stands` says where the loop stands: behind the first k items the buffer holds the code of the formulas that these make, and the bits of these
 -- wait on the stack. One item more finds its operands and room, as the rule is within the limits, and what it writes makes the code of one item more.
-use mathlib.Core.Path.{_≡_, refl, sym, ap, _∙_}
-use mathlib.Core.List.{List, [], _∷_, _++_, append-nil}
+use mathlib.Core.Path.{_≡_, refl, ap, _∙_}
+use mathlib.Core.List.{List, [], _∷_, _++_}
 use Prim.Native.Nat.{ℕ, zero, suc, _+_, _-_, _≤_, _<_}
 use native.Mathlib.Nat.{zero-add}
 use native.Mathlib.Numerals.{add-one}
 use native.Mathlib.Omega.{arith}
 use borrow.Author.Tests.{lt-ltb, le-ltb, le-leb}
-use lib.ListN.{length, getD, set, replicate, length-append, length-replicate}
+use lib.ListN.{length, getD, set, length-append}
 use Rattle.reading.specs.InTurn.{bytesOfAll}
 use Rattle.reading.specs.Limits.{limits}
 use Rattle.reading.specs.Numbers.{written}
-use Rattle.reading.proofs.InTurn.{bytes-append}
 use Rattle.reading.proofs.Written.{nothing, written-length}
 use Rattle.rules.specs.Formula.{Formula}
 use Rattle.rules.specs.Items.{rowOf}
@@ -20,10 +19,9 @@ use Rattle.rules.specs.declared.item.Item.{Item}
 use Rattle.rules.specs.declared.item.Row.{Row}
 use Rattle.rules.specs.declared.load.Rule.{Rule}
 use Rattle.rules.proofs.Stack.{stack-more}
-use Rattle.sequencer.specs.Code.{Code, bytesOf}
+use Rattle.sequencer.specs.Code.{bytesOf}
 use Rattle.reading.specs.Buffers.{over}
 use Rattle.emitter.specs.Emission.{stackCode, fromTop, ownCode, nextOf, Next, itemAt, itemsIn, Emits}
-use Rattle.emitter.specs.Emitting.{mostCodeBytes}
 use Rattle.emitter.specs.Translation.{itemCode}
 use Rattle.emitter.specs.Writing.{endAfter, Room, Wrote}
 use Rattle.emitter.specs.declared.emission.Emission.{Emission}

@@ -12,10 +12,10 @@ use Rattle.sequencer.specs.Bits.{next, counter, later, wireOf, wiresFrom, outpu
 use Rattle.sequencer.specs.Code.{instructionOf, bytesOf}
 use Rattle.sequencer.specs.Loading.{reachesIn, distanceIn, countsOf, countedOf, tooLarge, judgeOf}
 use Rattle.sequencer.specs.Running.{verdicts, badClip}
-use Rattle.emitter.specs.Translation.{timed, itemCode, translate}
+use Rattle.emitter.specs.Translation.{laterBy, timed, itemCode, translate}
 use Rattle.emitter.specs.Samples.{Right, samples}
 
 pub samples-right : Each Right samples
-unfolding samples tooShort walked inTurn itemAt numbersFrom look ruleCodes instructionCodes numberAt numberBytes bytesOfAll rule.itemOf rule.apply rule-loading.stackFrom rule-loading.timedIn rule-loading.lowerIn rule-loading.countsOf rule-loading.countedOf rule-loading.badWindow rule-loading.tooLarge rule-loading.judgeOf rule-loading.readRule instructionOf bytesOf judgeOf countsOf countedOf reachesIn distanceIn tooLarge verdicts badClip output wiresFrom wireOf counter next later hasFlag timed itemCode translate
+unfolding laterBy samples tooShort walked inTurn itemAt numbersFrom look ruleCodes instructionCodes numberAt numberBytes bytesOfAll rule.itemOf rule.apply rule-loading.stackFrom rule-loading.timedIn rule-loading.lowerIn rule-loading.countsOf rule-loading.countedOf rule-loading.badWindow rule-loading.tooLarge rule-loading.judgeOf rule-loading.readRule instructionOf bytesOf judgeOf countsOf countedOf reachesIn distanceIn tooLarge verdicts badClip output wiresFrom wireOf counter next later hasFlag timed itemCode translate
 samples-right =
     (refl, (refl, ((refl, refl), (refl, (refl, (refl, (refl, (refl, (refl, (refl, (refl, (refl, (refl, (refl, (refl, ((refl, refl), ((refl, refl), ((refl, refl), ((refl, refl), tt)))))))))))))))))))

@@ -17,12 +17,12 @@ use Rattle.sequencer.specs.Code.{Instruction, One, Flag, Nand, Reach, Later, Co
 use Rattle.sequencer.specs.Loading.{reachOf, reachesIn, distanceIn}
 use Rattle.sequencer.proofs.Counting.{reaches-append, distance-append}
 use Rattle.emitter.specs.Emission.{stackCode}
-use Rattle.emitter.specs.Translation.{timed, itemCode, behind, translate}
+use Rattle.emitter.specs.Translation.{laterBy, timed, itemCode, behind, translate}
 
 -- The instructions of an item
 pub item-size : (n : ℕ) (i : Item) (left right : ℕ) → let own = itemCode n i left right in
     (1 ≤ length own) × (length own ≤ 3 + 2 * rowOf i .timed) × (reachesIn own ≡ rowOf i .timed) × (distanceIn own ≡ rowOf i .lower)
-unfolding itemCode timed reachesIn distanceIn
+unfolding itemCode timed laterBy reachesIn distanceIn
 item-size n Item.True left right = omega arith
 item-size n Item.False left right = omega arith
 item-size n (Item.Flag k) left right = omega arith

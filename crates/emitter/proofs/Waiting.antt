@@ -5,7 +5,7 @@ use mathlib.Core.List.{List, [], _∷_, _++_, map}
 use Prim.Native.Nat.{ℕ, zero, suc, _+_, _-_, _≤_, _<_}
 use native.Mathlib.Omega.{arith}
 use borrow.Author.Tests.{le-ltb}
-use lib.ListN.{length, getD, take, drop, length-append, length-set}
+use lib.ListN.{length, getD, take, drop, length-set}
 use lib.Seq.{take-suc, take-length}
 use Rattle.reading.specs.InTurn.{bytesOfAll}
 use Rattle.reading.specs.Limits.{limits}
@@ -18,7 +18,6 @@ use Rattle.rules.specs.declared.item.Item.{Item}
 use Rattle.rules.specs.declared.item.Row.{Row}
 use Rattle.rules.proofs.Stack.{applied}
 use Rattle.rules.proofs.Walking.{stacked-drop, stacked-push}
-use Rattle.sequencer.specs.Code.{Code, bytesOf}
 use Rattle.emitter.specs.Emission.{stackCode, bitsOf, fromTop, ownCode, nextOf, itemAt, itemsIn}
 use Rattle.emitter.specs.Translation.{itemCode, last, behind, afterTwo, translate}
 use Rattle.emitter.specs.Writing.{endAfter}

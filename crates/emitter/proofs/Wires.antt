@@ -25,7 +25,7 @@ use Rattle.sequencer.specs.Bits.{Wire, Counter, none, count, next, isOn, counte
 use Rattle.sequencer.specs.Code.{One, Flag, Nand, Reach, Later, Code}
 use Rattle.sequencer.proofs.Counters.{counter-says, later-ago, later-none}
 use Rattle.emitter.proofs.Sizes.{grown}
-use Rattle.emitter.specs.Translation.{N, thenN, timed, itemCode, last, behind, afterOne, afterTwo, translate, codeFor}
+use Rattle.emitter.specs.Translation.{N, thenN, laterBy, timed, itemCode, last, behind, afterOne, afterTwo, translate, codeFor}
 
 -- REACH and LATER, for any w, bits and clip
 
@@ -122,9 +122,10 @@ module _ (ws : List Wire) (n : ℕ) (e : length ws ≡ n) where
       ∙ simp (← e, ← wires-length) (n-not vs (length vs - 1) w f)
 
   final-timed : (i j a b : ℕ) → a ≤ b → final (wiresFrom ws (timed n i j a b)) ≡ reaches a b (wire ws i) (wire ws j)
-  unfolding wiresFrom wireOf timed reaches counter
+  unfolding wiresFrom wireOf timed laterBy reaches counter
   final-timed i j zero b h =
-      final-new ws (wireOf ws (Reach i j b)) ∙ (λ k c. reach-reaches b (wire ws i) (wire ws j) 0 b (omega arith) c k)
+      let w = b - 0 in
+      final-new ws (wireOf ws (Reach i j w)) ∙ (λ k c. reach-reaches w (wire ws i) (wire ws j) 0 b (omega arith) c k)
   final-timed i j (suc a) b h =
       let w = b - suc a in
       let r = wireOf ws (Reach i j w) in

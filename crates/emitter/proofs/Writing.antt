@@ -1,7 +1,7 @@
 -- Code written behind code. An instruction is a row of numbers, and numbers that are written one behind the other, each by `write_number`, are one run of bytes; so are instructions
 -- one behind the other, wherever there is room for all of them.
 use mathlib.Core.Path.{_≡_, refl, sym, ap, subst, _∙_}
-use mathlib.Core.List.{List, [], _∷_, _++_, append-assoc, append-nil}
+use mathlib.Core.List.{List, [], _∷_, _++_, append-assoc}
 use mathlib.Core.Logic.{by-cases}
 use Prim.Native.Nat.{ℕ, zero, suc, _+_, _-_, _≤_}
 use native.Mathlib.Decide.{decLt}
@@ -15,7 +15,7 @@ use Rattle.reading.proofs.Written.{nothing, fitting, room-more, written-more}
 use Rattle.rules.specs.Items.{rowOf}
 use Rattle.rules.specs.declared.item.Item.{Item}
 use Rattle.sequencer.specs.Code.{Instruction, One, Flag, Nand, Reach, Later, Code, bytesOf}
-use Rattle.emitter.specs.Translation.{N, thenN, timed, itemCode}
+use Rattle.emitter.specs.Translation.{N, thenN, laterBy, timed, itemCode}
 use Rattle.emitter.specs.Writing.{endAfter, Room, Wrote}
 use Rattle.emitter.specs.declared.write.End.{End}
 
@@ -158,40 +158,36 @@ module _ (out : List ℕ) (end : End) (x y : Instruction) (rest : ℕ → Code) 
 
 pub timed-some : (n i j a b : ℕ) → 1 ≤ length (timed n i j a b)
 unfolding timed
-timed-some n i j zero b = omega arith
-timed-some n i j (suc a) b = omega arith
+timed-some n i j a b = omega arith
 
 module _ (out : List ℕ) (end : End) (i j a b w : ℕ) (width : w ≡ b - a) (room : Room out end (timed (end .count) i j a b)) where
-  alone : a ≡ 0 → timed (end .count) i j a b ≡ Reach i j w ∷ []
-  unfolding timed
-  alone z = let p : w ≡ b = omega arith in rw (z, p)
-
-  both : (n d : ℕ) → n ≡ end .count → d ≡ a → (a ≡ 0 → ⊥) → timed (end .count) i j a b ≡ Reach i j w ∷ Later n d ∷ []
-  unfolding timed
-  both n d number distance z =
-      let p : a ≡ suc (a - 1) = omega arith in
-      rw (width, number, distance, p)
-
   pub reach-room : Room out end (Reach i j w ∷ [])
-  reach-room =
-      by-cases (decLt 0 a)
-      (λ z. room-first out end (Reach i j w ∷ []) (Later (end .count) a ∷ []) (rw (← both (end .count) a refl refl (λ h. omega arith)) room))
-      (λ z. rw (← alone (omega arith)) room)
+  unfolding timed
+  reach-room = rw width (room-first out end (Reach i j (b - a) ∷ []) (laterBy (end .count) a) room)
 
   module _ (mid : List ℕ) (e : End) (v : Wrote out end (Reach i j w ∷ []) mid e) where
     pub reach-wrote : a ≡ 0 → Wrote out end (timed (end .count) i j a b) mid e
-    reach-wrote z = rw (alone z) v
+    unfolding timed laterBy
+    reach-wrote z = rw (← width, z) v
 
     module _ (z : a ≡ 0 → ⊥) (n d : ℕ) (number : n ≡ end .count) (distance : d ≡ a) where
+      own : laterBy (end .count) a ≡ Later n d ∷ []
+      unfolding laterBy
+      own =
+          let p : a ≡ suc (a - 1) = omega arith in
+          rw (number, distance, p)
+
       all : Room out end (Reach i j w ∷ Later n d ∷ [])
-      all = rw (← both n d number distance z) room
+      unfolding timed
+      all = rw (width, ← own) room
 
       pub later-room : Room mid e (Later n d ∷ [])
       later-room = room-rest out end (Reach i j w ∷ []) _ all mid e v
 
       pub later-wrote : (after : List ℕ) (next : End) → Wrote mid e (Later n d ∷ []) after next → Wrote out end (timed (end .count) i j a b) after next
+      unfolding timed
       later-wrote after next u =
-          rw (both n d number distance z) (wrote-more out end (Reach i j w ∷ []) (Later n d ∷ []) all mid e v after next u)
+          rw (own, ← width) (wrote-more out end (Reach i j w ∷ []) (Later n d ∷ []) all mid e v after next u)
 
 -- ONE, and REACH of that and the operand
 module _ (out : List ℕ) (end : End) (right a b i j : ℕ) (one : i ≡ end .count) (operand : j ≡ right) (room : Room out end (itemCode (end .count) (Item.Eventually a b) 0 right)) where

@@ -1,5 +1,4 @@
 -- How emitting stands for the formulas that wait on the stack. Contracts of inner functions cite it; `emit` says nothing of it.
-use mathlib.Core.Path.{_≡_}
 use mathlib.Core.Bool.{cond}
 use mathlib.Core.List.{List, [], _∷_, _++_}
 use Prim.Native.Nat.{ℕ, zero, suc, _+_, _-_, _≤_, _<_}

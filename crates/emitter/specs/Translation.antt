@@ -17,10 +17,14 @@ N i = Nand i i
 abbrev pub thenN : ℕ → Code → Code
 thenN n code = code ++ N (n + length code - 1) ∷ []
 
--- REACH of two bits b−a, which has number n, and LATER a, which is left out when a = 0
+-- LATER a of a bit, which is left out when a = 0
+unfoldable pub laterBy : ℕ → ℕ → Code
+laterBy i zero = []
+laterBy i (suc a) = Later i (suc a) ∷ []
+
+-- REACH of two bits b−a, whose number is n, and LATER a
 unfoldable pub timed : ℕ → ℕ → ℕ → ℕ → ℕ → Code
-timed n i j zero b = Reach i j b ∷ []
-timed n i j (suc a) b = Reach i j (b - suc a) ∷ Later n (suc a) ∷ []
+timed n i j a b = Reach i j (b - a) ∷ laterBy n a
 
 -- The table: the instructions of an item, the first of which has number n. left and right are the numbers of its operands' bits, and right that of a lone operand's
 unfoldable pub itemCode : ℕ → Item → ℕ → ℕ → Code

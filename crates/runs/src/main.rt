@@ -1,15 +1,20 @@
-// Answers each case of a stream for the sequencer, one line for each: the proved side of the comparison with the independent second
-// program, `second answer` of tests/second, which writes the same lines.
+// Answers each case of a stream for the sequencer or the emitter, one line for each: the proved side of the comparison with the independent
+// second program, `second answer` of tests/second, which writes the same lines.
 //
 // Standard input, until it ends: a byte for the case's kind, and three times bytes, each with their length before them as four bytes, lowest
 // first: for `l`, load, the code and twice nothing; for `s`, step, the code, the frame, and the registers as 288 bytes (sixteen counters of
-// two bytes, lowest first, and a byte for each of the 256 delay bits); for `r`, run, the code, the clip, and the buffer as it is before.
+// two bytes, lowest first, and a byte for each of the 256 delay bits); for `r`, run, the code, the clip, and the buffer as it is before; for
+// `e`, emit, the rule, nothing, and the buffer as it is before; for `j`, judge, the rule, the clip, and the buffer as it is before.
 //
 // Standard output: for load, `accepted INSTRUCTIONS` or `refused NUMBER PLACE`; for step, `bit BIT` or the refusal, and ` counters COUNTERS delays
 // DELAYS` with all registers after it, the delay bits as 64 hex digits, the first bit highest; for run, `done` or the refusal, and ` [BUFFER]` with
-// every byte of the buffer after it, two hex digits each. Where bytes are longer than 131,072, the kind is another, or the stream ends inside a
-// case, the line is `cut`, and it is the last.
+// every byte of the buffer after it, two hex digits each; for emit, `length LENGTH` or the refusal, and ` [BUFFER]`; for judge, what a run of the
+// rule's emitted code answers, or the rule's refusal, and ` [BUFFER]`. Where bytes are longer than 131,072, the kind is another, or the stream
+// ends inside a case, the line is `cut`, and it is the last.
 ghost use Prim.Native.Nat.{_<_};
+use emitter::emit::Emitted;
+use emitter::emit::MOST_CODE;
+use emitter::emit::emit;
 use libc::STDIN_FILENO;
 use libc::STDOUT_FILENO;
 use reading::limits::COUNTERS;
@@ -111,6 +116,14 @@ fn write_ran(ran: Ran) {
     }
 }
 
+// Writes what emitting answered.
+fn write_emitted(emitted: Emitted) {
+    match emitted {
+        Emitted::Length(length) => write_number(b"length ", length),
+        Emitted::Refused(refusal) => write_refusal(refusal),
+    }
+}
+
 // Writes a counter.
 fn write_counter(counter: u16) {
     write_number(b" ", counter as usize);
@@ -158,6 +171,13 @@ fn write_hex(bytes: &[u8]) {
     if held > 0 {
         io::print_hex(STDOUT_FILENO, word, 2 * held);
     }
+}
+
+// Writes every byte of a buffer, and ends the line.
+fn write_buffer(buffer: &[u8]) {
+    write(b" [");
+    write_hex(buffer);
+    write(b"]\n");
 }
 
 // The byte at a place; where there is none, 0.
@@ -216,9 +236,29 @@ fn answer_step(code: &[u8], frame: u8, bytes: &[u8]) {
 // Runs code over a clip and writes the answer and every byte of the buffer after it.
 fn answer_run(code: &[u8], clip: &[u8], buffer: &mut [u8]) {
     write_ran(run(code, clip, &mut *buffer));
-    write(b" [");
-    write_hex(buffer);
-    write(b"]\n");
+    write_buffer(buffer);
+}
+
+// Emits a rule's code and writes the answer and every byte of the buffer after it.
+fn answer_emit(rule: &[u8], buffer: &mut [u8]) {
+    write_emitted(emit(rule, &mut *buffer));
+    write_buffer(buffer);
+}
+
+// Runs a rule's code over a clip. A rule that is refused has no code, and its refusal is the answer.
+fn judge(rule: &[u8], clip: &[u8], buffer: &mut [u8]) -> Ran {
+    let mut code = [0; MOST_CODE];
+    let emitted = emit(rule, &mut code);
+    match emitted {
+        Emitted::Length(length) => run(&code[..length], clip, &mut *buffer),
+        Emitted::Refused(refusal) => Ran::Refused(refusal),
+    }
+}
+
+// Judges a clip by a rule and writes the answer and every byte of the buffer after it.
+fn answer_judge(rule: &[u8], clip: &[u8], buffer: &mut [u8]) {
+    write_ran(judge(rule, clip, &mut *buffer));
+    write_buffer(buffer);
 }
 
 // Says that the stream is cut, and that there is nothing more to do.
@@ -239,6 +279,14 @@ fn answer_case(kind: u8, code: &[u8], second: &[u8], third: &mut [u8]) -> bool {
     }
     if kind == b'r' {
         answer_run(code, second, &mut *third);
+        return true;
+    }
+    if kind == b'e' {
+        answer_emit(code, &mut *third);
+        return true;
+    }
+    if kind == b'j' {
+        answer_judge(code, second, &mut *third);
         return true;
     }
     cut()
