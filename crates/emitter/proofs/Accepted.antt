@@ -1,8 +1,8 @@
--- The code of an accepted rule is accepted. An item's instructions refer to its operands' bits and to each other, so all operands are earlier instructions, and flags, widths and
--- distances are within what the item's are; the totals follow from what the rule's items count.
+-- The code of an accepted rule is accepted. An item's instructions refer to its operands' bits and to each other, so all operands are earlier instructions, and its flag, width
+-- and distance are at most the item's own; the totals follow from what the rule's items count.
 use mathlib.Core.Path.{_≡_}
 use mathlib.Core.List.{List, [], _∷_, _++_, append-assoc, append-nil}
-use Prim.Native.Nat.{ℕ, zero, suc, _+_, _≤_, _<_}
+use Prim.Native.Nat.{ℕ, zero, suc, _+_, _≤_}
 use native.Mathlib.Omega.{arith}
 use lib.ListN.{length, length-append}
 use Rattle.reading.specs.Each.{Each}
@@ -12,7 +12,6 @@ use Rattle.reading.proofs.Each.{each-parted}
 use Rattle.rules.specs.Accepted.{IsRule}
 use Rattle.rules.specs.Formula.{Formula}
 use Rattle.rules.specs.Good.{InRange, postfix}
-use Rattle.rules.specs.Items.{rowOf as itemRow}
 use Rattle.rules.specs.Loading.{Items}
 use Rattle.rules.specs.declared.item.Item.{Item}
 use Rattle.sequencer.specs.Code.{Instruction, Code}
@@ -23,7 +22,7 @@ use Rattle.sequencer.proofs.Complete.{code-read}
 use Rattle.sequencer.proofs.Counting.{reaches-more, distance-more, good-none, good-more}
 use Rattle.emitter.specs.Emitting.{mostInstructions, mostCodeBytes}
 use Rattle.emitter.specs.Translation.{laterBy, timed, itemCode, behind, afterOne, afterTwo, translate, codeFor, codeBytes}
-use Rattle.emitter.proofs.Sizes.{Grown, grown, code-length}
+use Rattle.emitter.proofs.Sizes.{Earlier, Grown, grown, code-length}
 
 -- An instruction whose own numbers no test refuses, where so many are earlier
 abbrev Fits : ℕ → Instruction → Type 0
@@ -40,7 +39,7 @@ fit-append n m [] d e p q = let same : n ≡ m = omega arith in rw same q
 fit-append n m (i ∷ c) d e p q = (p .0, fit-append (n + 1) m c d (omega arith) (p .1) q)
 
 -- the instructions of an item in range, whose operands, if it has any, are earlier
-item-fit : (n : ℕ) (i : Item) (left right : ℕ) → InRange i → (1 ≤ itemRow i .operands → (left < n) × (right < n)) → Fit n (itemCode n i left right)
+item-fit : (n : ℕ) (i : Item) (left right : ℕ) → InRange i → Earlier i left right n → Fit n (itemCode n i left right)
 unfolding itemCode timed laterBy
 item-fit n Item.True left right r h = omega arith
 item-fit n Item.False left right r h = omega arith
@@ -57,7 +56,7 @@ item-fit n (Item.Eventually (suc a) b) left right r h = omega (arith, h (omega a
 item-fit n (Item.Globally zero b) left right r h = omega (arith, h (omega arith))
 item-fit n (Item.Globally (suc a) b) left right r h = omega (arith, h (omega arith))
 
-behind-fit : (c : Code) (i : Item) (left right : ℕ) → InRange i → (1 ≤ itemRow i .operands → (left < length c) × (right < length c)) → Fit 0 c → Fit 0 (behind c i left right)
+behind-fit : (c : Code) (i : Item) (left right : ℕ) → InRange i → Earlier i left right (length c) → Fit 0 c → Fit 0 (behind c i left right)
 behind-fit c i left right r h p = fit-append 0 (length c) c _ (omega arith) p (item-fit (length c) i left right r h)
 
 -- behind one operand, and behind two, whose code fits

@@ -1,31 +1,34 @@
 -- Demand 3. The emitter's answer and its buffer are the code of the rule's formula; that code is read back, and its output is the formula's computed meaning, which agrees with the
 -- paper's. So the byte that a run writes for a frame says whether the clip from it satisfies the rule. No one code can do that for two rules of which one always holds and one never.
 use mathlib.Core.Path.{_≡_, refl, ap, _∙_}
-use mathlib.Core.Bool.{Bool, true, false}
+use mathlib.Core.Bool.{Bool, true, false, cond}
 use mathlib.Core.List.{List, [], _∷_}
 use Prim.Native.Nat.{ℕ, zero, suc, _≤_, _<_}
 use native.Mathlib.Omega.{arith}
 use borrow.Author.Tests.{le-ltb, ne-eqb}
 use lib.ListN.{length, getD, take, drop, length-append, length-drop, List·getD-append}
 use lib.Seq.{take-at, drop-at}
+use Rattle.reading.specs.Buffers.{AllBytes}
 use Rattle.reading.specs.Frames.{Clip}
 use Rattle.reading.specs.InTurn.{items, inTurn, walked}
 use Rattle.reading.specs.Items.{itemAt, numbersFrom, look, ruleCodes}
 use Rattle.reading.specs.Limits.{limits}
+use Rattle.reading.specs.declared.refusal.Refusal.{Refusal}
 use Rattle.reading.proofs.Buffers.{long-enough}
-use Rattle.reading.proofs.Bytes.{AllBytes}
+use Rattle.reading.proofs.Choices.{bool-false}
 use Rattle.rules.specs.Formula.{Formula}
 use Rattle.rules.specs.Items.{itemOf, apply}
 use Rattle.rules.specs.Loading.{Items, accepted, stackFrom, timedIn, lowerIn, countsOf, countedOf, badWindow, tooLarge, judgeOf, readRule}
 use Rattle.rules.specs.Meaning.{Holds, holds}
 use Rattle.rules.proofs.Accepted.{accepted-rule}
 use Rattle.rules.proofs.Agreement.{agreement}
+use Rattle.sequencer.proofs.Running.{verdict-at, verdicts-length}
 use Rattle.sequencer.specs.Bits.{output}
 use Rattle.sequencer.specs.Code.{Code}
 use Rattle.sequencer.specs.Loading.{readCode, codeOf}
 use Rattle.sequencer.specs.Running.{byteOf, verdicts, badClip, ranOf, bufferAfter}
 use Rattle.sequencer.specs.declared.run.Ran.{Ran}
-use Rattle.emitter.specs.Demand.{EmitSays, RunSays, Verdicts, Meets}
+use Rattle.emitter.specs.Demand.{EmitSays, RunSays, Verdicts, Meets, DemandThree}
 use Rattle.emitter.specs.Translation.{codeFor, codeBytes}
 use Rattle.emitter.specs.declared.emit.Emitted.{Emitted}
 use Rattle.emitter.proofs.Accepted.{code-accepted}
@@ -41,24 +44,6 @@ emit-says κs a r x p = p
 pub run-says : (κs : _) (a : _) (r : _) (x : _) → run.Post κs a r x → RunSays (a .0 .now) (a .1 .0 .now) (a .1 .1 .0 .now) r (x .1 .1 .0 .now)
 run-says κs a r x p = p
 
--- The bytes of a run
-
-verdict-at : (code : Code) (clip : Clip) (i : ℕ) → i < length clip → getD (verdicts code clip) i 0 ≡ byteOf (output code (drop i clip))
-unfolding verdicts
-verdict-at code [] i h = absurd (omega arith)
-verdict-at code (x ∷ c) zero h = refl
-verdict-at code (x ∷ c) (suc i) h = verdict-at code c i (omega arith)
-
-verdicts-length : (code : Code) (clip : Clip) → length (verdicts code clip) ≡ length clip
-unfolding verdicts
-verdicts-length code [] = refl
-verdicts-length code (x ∷ c) = ap suc (verdicts-length code c)
-
--- what does not hold is computed as false
-not-held : (b : Bool) → (b ≡ true → ⊥) → b ≡ false
-not-held true h = absurd (h refl)
-not-held false h = refl
-
 module _ (f : Formula) (code : Code) (says : output code ≡ holds f) (clip before : List ℕ) (room : length clip ≤ length before) where
   -- the byte of a frame is what the rule says of the clip from it
   says-at : (i : ℕ) (b : Bool) → i < length clip → holds f (drop i clip) ≡ b → getD (bufferAfter Ran.Done code clip before) i 0 ≡ byteOf b
@@ -73,7 +58,7 @@ module _ (f : Formula) (code : Code) (says : output code ≡ holds f) (clip befo
       let l = verdicts-length code clip in
       record {
         satisfied = λ i h p. says-at i true h (agreement f (drop i clip) .1 p);
-        broken = λ i h n. says-at i false h (not-held _ (λ e. n (agreement f (drop i clip) .0 e)));
+        broken = λ i h n. says-at i false h (bool-false _ (λ e. n (agreement f (drop i clip) .0 e)));
         rest = drop-at (verdicts code clip) _ (length clip) l ∙ ap (λ n. drop n before) l;
         same = length-append (verdicts code clip) _ ∙ omega (arith, length-drop (length (verdicts code clip)) before);
       }
@@ -92,11 +77,11 @@ read-meets f code bytes read says =
     }
 
 -- The demand
-pub demand-three : (rule before : List ℕ) (is : Items) (f : Formula) → AllBytes rule → readRule rule ≡ accepted is f → length (codeBytes f) ≤ length before → (answer : Emitted) (after : List ℕ) → EmitSays rule before answer after → (n : ℕ) × (answer ≡ Emitted.Length n) × Meets f (take n after)
+pub demand-three : DemandThree
 demand-three rule before is f small read room answer after p =
     let r = accepted-rule rule is f small read in
     let answered : answer ≡ Emitted.Length (length (codeBytes f)) =
-    p .0 ∙ rw (read, long-enough before (codeBytes f) room) in
+    p .0 ∙ rw read (ap (λ short. cond short (Emitted.Refused Refusal.ShortOutput) (Emitted.Length (length (codeBytes f)))) (long-enough before (codeBytes f) room)) in
     let own : take (length (codeBytes f)) after ≡ codeBytes f =
     ap (take (length (codeBytes f))) (rw (answered, read) at (p .1)) ∙ take-at (codeBytes f) _ (length (codeBytes f)) refl in
     let says = output-holds f (rw (r .own-items) at (r .ranges)) in
@@ -106,10 +91,14 @@ demand-three rule before is f small read room answer after p =
 one-frame : (f : Formula) (code : List ℕ) → Meets f code → Verdicts f (0 ∷ []) (0 ∷ []) (bufferAfter (ranOf (readCode code) (0 ∷ []) (0 ∷ [])) (codeOf (readCode code)) (0 ∷ []) (0 ∷ []))
 one-frame f code m = m .judges (0 ∷ []) (0 ∷ []) (omega arith) (omega arith) (omega arith) _ _ (refl, refl) .1
 
+one-byte : (b : ℕ) → b < 256 → AllBytes (b ∷ [])
+one-byte b h zero = h
+one-byte b h (suc i) = omega arith
+
 -- No one code meets the demand for every accepted rule: of `10`, true, and `11`, false, one byte would be both 1 and 0
-pub no-fixed-code : (code : List ℕ) → ((rule : List ℕ) (is : Items) (f : Formula) → readRule rule ≡ accepted is f → Meets f code) → ⊥
+pub no-fixed-code : (code : List ℕ) → ((rule : List ℕ) (is : Items) (f : Formula) → AllBytes rule → readRule rule ≡ accepted is f → Meets f code) → ⊥
 unfolding readRule walked inTurn itemAt numbersFrom look ruleCodes itemOf apply stackFrom timedIn lowerIn countsOf countedOf badWindow tooLarge judgeOf Holds
 no-fixed-code code meets =
-    let yes = one-frame Formula.True code (meets (0x10 ∷ []) _ Formula.True refl) in
-    let no = one-frame Formula.False code (meets (0x11 ∷ []) _ Formula.False refl) in
+    let yes = one-frame Formula.True code (meets (0x10 ∷ []) _ Formula.True (one-byte 0x10 (omega arith)) refl) in
+    let no = one-frame Formula.False code (meets (0x11 ∷ []) _ Formula.False (one-byte 0x11 (omega arith)) refl) in
     omega (arith, yes .satisfied 0 (omega arith) tt, no .broken 0 (omega arith) (λ p. p))

@@ -1,17 +1,18 @@
 -- `emit` past its tests. A rule that is loaded and accepted has the items of one formula, each of which can be emitted behind those before it within the limits; so the code that its
 -- items make in order is the code of that formula, which is what the definition says.
 use mathlib.Core.Path.{_≡_, refl, sym, ap, _∙_}
+use mathlib.Core.Bool.{Bool, true, false, cond}
 use mathlib.Core.List.{List, [], _∷_, _++_, append-nil}
-use Prim.Native.Nat.{ℕ, zero, suc, _+_, _*_, _≤_, _<_}
+use Prim.Native.Nat.{ℕ, suc, _+_, _*_, _≤_, _<_}
 use native.Mathlib.Omega.{arith}
 use lib.ListN.{length, getD, take, drop, length-append, length-take, take-append-drop}
 use lib.Seq.{take-suc, take-at, take-length}
-use Rattle.reading.specs.Each.{Each}
+use Rattle.reading.specs.Buffers.{AllBytes, tooShort, over}
 use Rattle.reading.specs.InTurn.{bytesOfAll}
 use Rattle.reading.specs.Limits.{limits}
 use Rattle.reading.specs.declared.refusal.Refusal.{Refusal}
-use Rattle.reading.proofs.Buffers.{too-short, long-enough, fits}
-use Rattle.reading.proofs.Bytes.{AllBytes}
+use Rattle.reading.proofs.Buffers.{too-short, long-enough, not-short}
+use Rattle.reading.proofs.Each.{each-at}
 use Rattle.reading.proofs.Choices.{else-taken}
 use Rattle.rules.specs.Accepted.{IsRule}
 use Rattle.rules.specs.Formula.{Formula}
@@ -24,7 +25,6 @@ use Rattle.rules.proofs.Accepted.{accepted-rule, made}
 use Rattle.rules.proofs.Prefixes.{values-few, operands-there, whole-prefix}
 use Rattle.rules.proofs.Stack.{timed-append}
 use Rattle.sequencer.specs.Code.{bytesOf}
-use Rattle.reading.specs.Buffers.{tooShort, over}
 use Rattle.emitter.specs.Emission.{stackCode, itemsIn, Ready, Emits}
 use Rattle.emitter.specs.Emitting.{mostCodeBytes, bytesFor, emittedOf}
 use Rattle.emitter.specs.Translation.{codeBytes}
@@ -59,13 +59,11 @@ accepts bytes rule n h small own e =
       many = many;
     }
 
--- Each of a rule's items can be emitted
+-- what is answered, by whether the buffer is too short
+abbrev answer : Formula → Bool → Emitted
+answer f short = cond short (Emitted.Refused Refusal.ShortOutput) (Emitted.Length (length (codeBytes f)))
 
--- an element of a list has what each has
-each-at : {A : Type 0} (P : A → Type 0) (xs : List A) (d : A) (k : ℕ) → Each P xs → k < length xs → P (getD xs k d)
-each-at P [] d k e h = absurd (omega arith)
-each-at P (x ∷ xs) d zero e h = e .0
-each-at P (x ∷ xs) d (suc k) e h = each-at P xs d k (e .1) (omega arith)
+-- Each of a rule's items can be emitted
 
 -- a part of the items has no more timed ones than all
 timed-part : (k : ℕ) (is : Items) → timedIn (take k is) ≤ timedIn is
@@ -90,7 +88,7 @@ module _ (bytes : List ℕ) (f : Formula) (r : IsRule bytes (postfix f) f) where
       record {
         window = each-at InRange (postfix f) Item.True k (r .ranges) h .window;
         operands = operands-there f k h;
-        values = values-few (take k (postfix f));
+        values = omega (arith, values-few f k, length-take k (postfix f));
         bytes = short;
         instructions = few;
       }
@@ -109,21 +107,21 @@ module _ (bytes : List ℕ) (rule : Rule) (n : ℕ) (a : Accepts bytes rule n) w
       })
 
   -- what the items make in order is the code of the formula
-  pub own-code : bytesOfAll bytesOf (stackCode (stackOf (itemsIn rule n))) ≡ codeBytes (a .formula)
+  rule-code : bytesOfAll bytesOf (stackCode (stackOf (itemsIn rule n))) ≡ codeBytes (a .formula)
   unfolding stackFrom stackCode
-  own-code =
+  rule-code =
       let is = a .items in
       let f = a .formula in
       let value : stackOf (postfix f) ≡ f ∷ [] = rw append-nil at (made f [] []) in
       rw (a .own, a .many, items-back is f, a .is-rule .own-items, value)
 
   -- The answers, once the items are emitted into a buffer that holds the code
-  module _ (before : List ℕ) (wide : length before ≡ mostCodeBytes) (m : ℕ) (held : List ℕ) (w : let code = bytesOfAll bytesOf (stackCode (stackOf (itemsIn rule n))) in (m ≡ length code) × (held ≡ over code before)) where
+  module _ (before : List ℕ) (m : ℕ) (held : List ℕ) (w : let code = bytesOfAll bytesOf (stackCode (stackOf (itemsIn rule n))) in (m ≡ length code) × (held ≡ over code before)) where
     own-length : m ≡ length (codeBytes (a .formula))
-    own-length = w .0 ∙ ap length own-code
+    own-length = w .0 ∙ ap length rule-code
 
     own-bytes : held ≡ over (codeBytes (a .formula)) before
-    own-bytes = w .1 ∙ ap (λ code. over code before) own-code
+    own-bytes = w .1 ∙ ap (λ code. over code before) rule-code
 
     -- the code is the first part
     first-part : take m held ≡ codeBytes (a .formula)
@@ -137,14 +135,20 @@ module _ (bytes : List ℕ) (rule : Rule) (n : ℕ) (a : Accepts bytes rule n) w
 
     module _ (out : List ℕ) where
       pub answer-short : length out < m → Emitted.Refused Refusal.ShortOutput ≡ emittedOf (readRule bytes) out
-      answer-short h = rw (a .read, too-short out (codeBytes (a .formula)) (omega (arith, own-length)))
+      answer-short h =
+          let f = a .formula in
+          let test : tooShort out (codeBytes f) ≡ true = too-short out (codeBytes f) (omega (arith, own-length)) in
+          rw (a .read) (ap (answer f) (sym test))
 
       module _ (room : m ≤ length out) where
         pub part-fits : length (take m held) ≤ length out
         part-fits = omega (arith, part-length)
 
         pub answer-length : Emitted.Length m ≡ emittedOf (readRule bytes) out
-        answer-length = rw (a .read, long-enough out (codeBytes (a .formula)) (omega (arith, own-length)), own-length)
+        answer-length =
+            let f = a .formula in
+            let test : tooShort out (codeBytes f) ≡ false = long-enough out (codeBytes f) (omega (arith, own-length)) in
+            rw (a .read, own-length) (ap (answer f) (sym test))
 
         pub answer-bytes : (after : List ℕ) → after ≡ take (length (take m held)) (take m held) ++ drop (length (take m held)) out → after ≡ over (bytesFor (readRule bytes)) out
         answer-bytes after e = e ∙ rw (first-part, a .read, take-length)
@@ -162,7 +166,8 @@ answer-refused bytes out rule r own e = let is = loaded-refused (readRule bytes)
 pub always-suffices : (bytes out : List ℕ) (is : Items) (f : Formula) → AllBytes bytes → readRule bytes ≡ accepted is f → mostCodeBytes ≤ length out → emittedOf (readRule bytes) out ≡ Emitted.Length (length (codeBytes f))
 always-suffices bytes out is f small read room =
     let short = code-bytes bytes is f (accepted-rule bytes is f small read) in
-    rw (read, long-enough out (codeBytes f) (omega arith))
+    let test : tooShort out (codeBytes f) ≡ false = long-enough out (codeBytes f) (omega arith) in
+    rw read (ap (answer f) test)
 
 -- A length that is answered is within the buffer
 
@@ -171,9 +176,9 @@ apart e = let z : _≡_ {A = ℕ} 0 1 = cc in omega arith
 
 read-fits : (read : Reading) (out : List ℕ) (n : ℕ) → emittedOf read out ≡ Emitted.Length n → n ≤ length out
 read-fits (accepted is f) out n e =
-    let (room, answer) = else-taken (tooShort out (codeBytes f)) apart e in
+    let (room, length-is) = else-taken (tooShort out (codeBytes f)) apart e in
     let own : n ≡ length (codeBytes f) = cc in
-    omega (arith, fits out (codeBytes f) room)
+    omega (arith, not-short out (codeBytes f) room)
 read-fits (refused r) out n e = absurd (apart e)
 
 pub length-fits : (bytes out : List ℕ) (n : ℕ) → emittedOf (readRule bytes) out ≡ Emitted.Length n → n ≤ length out

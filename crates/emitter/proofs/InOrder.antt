@@ -8,6 +8,7 @@ use native.Mathlib.Numerals.{add-one}
 use native.Mathlib.Omega.{arith}
 use borrow.Author.Tests.{lt-ltb, le-ltb, le-leb}
 use lib.ListN.{length, getD, set, length-append}
+use Rattle.reading.specs.Buffers.{over}
 use Rattle.reading.specs.InTurn.{bytesOfAll}
 use Rattle.reading.specs.Limits.{limits}
 use Rattle.reading.specs.Numbers.{written}
@@ -20,8 +21,7 @@ use Rattle.rules.specs.declared.item.Row.{Row}
 use Rattle.rules.specs.declared.load.Rule.{Rule}
 use Rattle.rules.proofs.Stack.{stack-more}
 use Rattle.sequencer.specs.Code.{bytesOf}
-use Rattle.reading.specs.Buffers.{over}
-use Rattle.emitter.specs.Emission.{stackCode, fromTop, ownCode, nextOf, Next, itemAt, itemsIn, Emits}
+use Rattle.emitter.specs.Emission.{stackCode, fromTop, ownCode, nextOf, Next, itemIn, itemsIn, Emits}
 use Rattle.emitter.specs.Translation.{itemCode}
 use Rattle.emitter.specs.Writing.{endAfter, Room, Wrote}
 use Rattle.emitter.specs.declared.emission.Emission.{Emission}
@@ -90,7 +90,7 @@ module _ (rule : Rule) (n : ℕ) (before : List ℕ) (emits : Emits rule n befor
     st = stackOf (itemsIn rule k)
 
     abbrev item : Item
-    item = itemAt rule k
+    item = itemIn rule k
 
     -- with its own code, the code of one item more
     grown : stackCode (stackOf (itemsIn rule k ++ item ∷ [])) ≡ stackCode st ++ ownCode e item

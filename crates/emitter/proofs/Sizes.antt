@@ -1,7 +1,7 @@
 -- What the translation adds to the code before it: of each item three instructions at most, two more of a timed one, whose REACH and LATER are the item's own. Item by item these
 -- add up, for a formula and for the formulas that wait.
-use mathlib.Core.Path.{_≡_}
-use mathlib.Core.List.{List, [], _∷_, _++_}
+use mathlib.Core.Path.{_≡_, refl}
+use mathlib.Core.List.{List, [], _∷_, _++_, append-assoc}
 use Prim.Native.Nat.{ℕ, zero, suc, _+_, _*_, _≤_, _<_}
 use native.Mathlib.Omega.{arith}
 use lib.ListN.{length, length-append}
@@ -18,6 +18,10 @@ use Rattle.sequencer.specs.Loading.{reachOf, reachesIn, distanceIn}
 use Rattle.sequencer.proofs.Counting.{reaches-append, distance-append}
 use Rattle.emitter.specs.Emission.{stackCode}
 use Rattle.emitter.specs.Translation.{laterBy, timed, itemCode, behind, translate}
+
+-- the operands' bits stand earlier, if the item has any
+abbrev pub Earlier : Item → ℕ → ℕ → ℕ → Type 0
+Earlier item left right n = 1 ≤ rowOf item .operands → (left < n) × (right < n)
 
 -- The instructions of an item
 pub item-size : (n : ℕ) (i : Item) (left right : ℕ) → let own = itemCode n i left right in
@@ -40,6 +44,8 @@ item-size n (Item.Globally (suc a) b) left right = omega arith
 
 -- Code, and the same with the instructions of these items behind it
 pub record Grown (c d : Code) (is : Items) : Type 0 where
+  pub added : Code
+  pub whole : d ≡ c ++ added
   pub more : length c < length d
   pub few : length d ≤ length c + (3 * length is + 2 * timedIn is)
   pub reaches : reachesIn d ≡ reachesIn c + timedIn is
@@ -50,6 +56,8 @@ unfolding timedIn lowerIn
 grown-item c i left right =
     let size = item-size (length c) i left right in
     record {
+      added = itemCode (length c) i left right;
+      whole = refl;
       more = simp length-append (omega arith);
       few = simp length-append (omega arith);
       reaches = rw reaches-append (omega arith);
@@ -59,6 +67,8 @@ grown-item c i left right =
 joined : {c d e : Code} {is js : Items} → Grown c d is → Grown d e js → Grown c e (is ++ js)
 joined g h =
     record {
+      added = g .added ++ h .added;
+      whole = rw (h .whole, g .whole, append-assoc);
       more = omega arith;
       few = simp (length-append, timed-append) (omega arith);
       reaches = rw timed-append (omega arith);

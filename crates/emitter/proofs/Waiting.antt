@@ -18,12 +18,17 @@ use Rattle.rules.specs.declared.item.Item.{Item}
 use Rattle.rules.specs.declared.item.Row.{Row}
 use Rattle.rules.proofs.Stack.{applied}
 use Rattle.rules.proofs.Walking.{stacked-drop, stacked-push}
-use Rattle.emitter.specs.Emission.{stackCode, bitsOf, fromTop, ownCode, nextOf, itemAt, itemsIn}
+use Rattle.emitter.specs.Emission.{stackCode, fromTop, ownCode, nextOf, itemIn, itemsIn}
 use Rattle.emitter.specs.Translation.{itemCode, last, behind, afterTwo, translate}
 use Rattle.emitter.specs.Writing.{endAfter}
 use Rattle.emitter.proofs.Writing.{end-append}
 use Rattle.emitter.specs.declared.emission.Emission.{Emission}
 use Rattle.emitter.specs.declared.write.End.{End}
+
+-- The numbers of the bits of the formulas that wait, the last one first
+pub bitsOf : List Formula → List ℕ
+bitsOf [] = []
+bitsOf (f ∷ st) = last (stackCode (f ∷ st)) ∷ bitsOf st
 
 -- Where emitting stands for the formulas that wait
 pub record Follows (e : Emission) (st : List Formula) : Type 0 where
@@ -144,8 +149,8 @@ column-at f is k h = getD-padded (limits .items) (map (λ i. f (rowOf i)) is) k 
 
 -- The items of a rule that was loaded: one, the first so many, and all of them
 module _ (is : Items) (f : Formula) where
-  pub item-back : (k : ℕ) → k < length is → itemAt (ruleOf (accepted is f)) k ≡ getD is k Item.True
-  unfolding itemAt ruleOf
+  pub item-back : (k : ℕ) → k < length is → itemIn (ruleOf (accepted is f)) k ≡ getD is k Item.True
+  unfolding itemIn ruleOf
   item-back k h =
       rw (column-at (λ r. r .code) is k h, column-at (λ r. r .flag) is k h, column-at (λ r. r .lower) is k h, column-at (λ r. r .upper) is k h)
       (row-back (getD is k Item.True))

@@ -1,69 +1,49 @@
 -- The last bit of a formula's code is the formula's meaning: code only grows, so an operand's bit is still there when its item's instructions come, and those make of the operands'
--- bits what the item makes of their meanings. For a timed item that is so as REACH's counter is below m exactly if one of the first m places is reached, for each m up to w + 1.
+-- bits what the item makes of their meanings. For a timed item that is so as REACH's counter says whether one of the window's places is reached.
 use mathlib.Core.Path.{_≡_, refl, sym, ap, _∙_}
 use mathlib.Core.Bool.{Bool, true, false, not, _&&_, _||_, and-self, Bool·not-not}
 use mathlib.Core.List.{List, [], _∷_, _++_}
-use mathlib.Core.Logic.{by-cases}
+use mathlib.Core.Logic.{by-cases, _↔_, Iff·rfl}
 use Prim.Native.Nat.{ℕ, zero, suc, _+_, _-_, _≤_, _<_}
-use borrow.Author.Tests.{lt-ltb, le-ltb}
 use native.Mathlib.Decide.{decLt}
-use native.Mathlib.Nat.{add-zero, zero-add}
-use native.Mathlib.Numerals.{add-one}
+use native.Mathlib.Nat.{zero-add}
 use native.Mathlib.Omega.{arith}
-use lib.Dec.{ltb, leb·suc-zero, leb·suc-suc}
 use lib.ListN.{length, getD, drop, length-append, drop-of-length-le, List·getD-append}
 use lib.Seq.{getD-append-seam, getD-at}
 use Rattle.reading.specs.Each.{Each}
 use Rattle.reading.specs.Frames.{Clip, hasFlag}
 use Rattle.reading.proofs.Each.{each-parted}
+use Rattle.reading.proofs.Choices.{bool-false}
 use Rattle.rules.specs.Formula.{Formula}
 use Rattle.rules.specs.Good.{InRange, postfix}
-use Rattle.rules.specs.Items.{rowOf}
 use Rattle.rules.specs.Meaning.{within, reaches, holds}
 use Rattle.rules.specs.declared.item.Item.{Item}
-use Rattle.sequencer.specs.Bits.{Wire, Counter, none, count, next, isOn, counter, later, wire, wireOf, wiresFrom, output, Says}
+use Rattle.rules.proofs.Agreement.{Found, found}
+use Rattle.sequencer.specs.Bits.{Wire, Counter, none, count, isOn, counter, later, wire, wireOf, wiresFrom, output, Says}
 use Rattle.sequencer.specs.Code.{One, Flag, Nand, Reach, Later, Code}
 use Rattle.sequencer.proofs.Counters.{counter-says, later-ago, later-none}
-use Rattle.emitter.proofs.Sizes.{grown}
+use Rattle.sequencer.proofs.Wires.{wires-append, wires-length, wires-old}
+use Rattle.emitter.proofs.Sizes.{Earlier, grown}
 use Rattle.emitter.specs.Translation.{N, thenN, laterBy, timed, itemCode, last, behind, afterOne, afterTwo, translate, codeFor}
 
 -- REACH and LATER, for any w, bits and clip
 
-abbrev below : ℕ → Counter → Bool
-below m none = false
-below m (count p) = ltb p m
+-- what the counter says is whether one of the first w + 1 places is reached
+module _ (w : ℕ) (i j : Wire) (c : Clip) where
+  places : (within (suc w) i j c ≡ true) ↔ Found (suc w) (λ d. i d ≡ true) (λ d. j d ≡ true) c
+  places = found (λ d. Iff·rfl) (λ d. Iff·rfl) (suc w) c
 
-below-zero : (n : Counter) → below 0 n ≡ false
-below-zero none = refl
-below-zero (count p) = leb·suc-zero p
+  on-within : (n : Counter) → Says w i j c n → isOn n ≡ within (suc w) i j c
+  on-within none s =
+      sym (bool-false _ (λ h. let f = places .0 h in s (f .place) (omega arith) (record { inside = f .inside; there = f .right; before = f .left })))
+  on-within (count p) s =
+      sym (places .1 (record { place = p; near = omega arith; inside = s .1 .inside; right = s .1 .there; left = s .1 .before }))
 
-below-next : (m w : ℕ) → m ≤ w → (i j : Bool) (n : Counter) → below (suc m) (next w i j n) ≡ (j || (i && below m n))
-unfolding next
-below-next m w h i true n = lt-ltb 0 (suc m) (omega arith)
-below-next m w h false false n = refl
-below-next m w h true false none = refl
-below-next m w h true false (count p) =
-    by-cases (decLt p w)
-    (λ k. rw (lt-ltb p w k, add-one, leb·suc-suc))
-    (λ k. rw (le-ltb p w (omega arith), le-ltb p m (omega arith)))
-
-module _ (w : ℕ) (i j : Wire) where
-  below-within : (m : ℕ) → m ≤ suc w → (c : Clip) → below m (counter w i j c) ≡ within m i j c
-  unfolding counter within
-  below-within zero h c = below-zero (counter w i j c)
-  below-within (suc m) h [] = refl
-  below-within (suc m) h (x ∷ c) = rw (below-next m w (omega arith), below-within m (omega arith) c)
-
-  -- a counter that isn't "none" is at most w
-  on-below : (c : Clip) (n : Counter) → Says w i j c n → isOn n ≡ below (suc w) n
-  on-below c none s = refl
-  on-below c (count p) s = sym (lt-ltb p (suc w) (omega (arith, s .0)))
-
-  reach-reaches : (a b : ℕ) → suc w ≡ suc b - a → (c : Clip) → isOn (counter w i j (drop a c)) ≡ reaches a b i j c
-  unfolding reaches
-  reach-reaches a b e c =
-      let d = drop a c in
-      on-below d (counter w i j d) (counter-says w i j d) ∙ below-within (suc w) (omega arith) d ∙ rw e
+reach-reaches : (w : ℕ) (i j : Wire) (a b : ℕ) → suc w ≡ suc b - a → (c : Clip) → isOn (counter w i j (drop a c)) ≡ reaches a b i j c
+unfolding reaches
+reach-reaches w i j a b e c =
+    let d = drop a c in
+    on-within w i j d (counter w i j d) (counter-says w i j d) ∙ rw e
 
 -- LATER's bit is 0 where there were fewer frames, and so is a bit that is 0 of the empty clip
 later-drop : (i : Wire) → i [] ≡ false → (d : ℕ) (c : Clip) → later d i c ≡ i (drop d c)
@@ -72,27 +52,7 @@ later-drop i off d c =
     (later-ago d i c)
     (λ h. let k : length c ≤ d = omega arith in rw drop-of-length-le (later-none d i c k ∙ sym off))
 
--- The bits of code
-
-wires-append : (ws : List Wire) (c d : Code) → wiresFrom ws (c ++ d) ≡ wiresFrom (wiresFrom ws c) d
-unfolding wiresFrom
-wires-append ws [] d = refl
-wires-append ws (i ∷ c) d = wires-append (ws ++ wireOf ws i ∷ []) c d
-
-wires-length : (ws : List Wire) (c : Code) → length (wiresFrom ws c) ≡ length ws + length c
-unfolding wiresFrom
-wires-length ws [] = sym (add-zero (length ws))
-wires-length ws (i ∷ c) =
-    let e = wires-length (ws ++ wireOf ws i ∷ []) c in
-    let l = length-append ws (wireOf ws i ∷ []) in
-    omega arith
-
-wires-old : (ws : List Wire) (c : Code) (i : ℕ) → i < length ws → wire (wiresFrom ws c) i ≡ wire ws i
-unfolding wiresFrom
-wires-old ws [] i h = refl
-wires-old ws (k ∷ c) i h =
-    wires-old (ws ++ wireOf ws k ∷ []) c i (rw length-append (omega arith))
-    ∙ List·getD-append ws (wireOf ws k ∷ []) (λ c. false) i h
+-- The last of some bits
 
 abbrev final : List Wire → Wire
 final ws = wire ws (length ws - 1)
@@ -187,10 +147,6 @@ means (Item.Release a b) l r = λ c. not (reaches a b (λ d. not (l d)) (λ d. n
 means (Item.Eventually a b) l r = reaches a b (λ d. true) r
 means (Item.Globally a b) l r = λ c. not (reaches a b (λ d. true) (λ d. not (r d)) c)
 
--- the operands' bits stand earlier, if the item has any
-abbrev Earlier : Item → ℕ → ℕ → ℕ → Type 0
-Earlier item left right n = 0 < rowOf item .operands → (left < n) × (right < n)
-
 module _ (ws : List Wire) (left right : ℕ) where
   final-item : (item : Item) → InRange item → Earlier item left right (length ws)
       → final (wiresFrom ws (itemCode (length ws) item left right)) ≡ means item (wire ws left) (wire ws right)
@@ -226,36 +182,18 @@ bit c i = wire (wiresFrom [] c) i
 bits-length : (c : Code) → length (wiresFrom [] c) ≡ length c
 bits-length c = wires-length [] c ∙ zero-add (length c)
 
--- d has c's bits
-abbrev Kept : Code → Code → Type 0
-Kept c d = (i : ℕ) → i < length c → bit d i ≡ bit c i
-
 module _ (c : Code) (item : Item) (left right : ℕ) where
-  kept-item : Kept c (behind c item left right)
-  kept-item i h = rw wires-append (wires-old (wiresFrom [] c) _ i (rw bits-length h))
-
   last-item : InRange item → Earlier item left right (length c)
       → bit (behind c item left right) (last (behind c item left right)) ≡ means item (bit c left) (bit c right)
   last-item g h =
       rw (bits-length c, ← wires-append, bits-length) at
       (final-item (wiresFrom [] c) left right item g (rw bits-length h))
 
--- by one operand's code, and then by more
-kept-on : (f : Formula) (c d : Code) → Kept c (translate c f) → Kept (translate c f) d → Kept c d
-kept-on f c d g h i k = let m = grown c f in h i (omega arith) ∙ g i k
-
-kept : (f : Formula) (c : Code) → Kept c (translate c f)
-unfolding translate
-kept Formula.True c = kept-item c _ _ _
-kept Formula.False c = kept-item c _ _ _
-kept (Formula.Flag k) c = kept-item c _ _ _
-kept (Formula.Not f) c = kept-on f c _ (kept f c) (kept-item _ _ _ _)
-kept (Formula.And f g) c = kept-on f c _ (kept f c) (kept-on g _ _ (kept g _) (kept-item _ _ _ _))
-kept (Formula.Or f g) c = kept-on f c _ (kept f c) (kept-on g _ _ (kept g _) (kept-item _ _ _ _))
-kept (Formula.Until a b f g) c = kept-on f c _ (kept f c) (kept-on g _ _ (kept g _) (kept-item _ _ _ _))
-kept (Formula.Release a b f g) c = kept-on f c _ (kept f c) (kept-on g _ _ (kept g _) (kept-item _ _ _ _))
-kept (Formula.Eventually a b f) c = kept-on f c _ (kept f c) (kept-item _ _ _ _)
-kept (Formula.Globally a b f) c = kept-on f c _ (kept f c) (kept-item _ _ _ _)
+-- a formula's code keeps the bits of the code before it
+kept : (c : Code) (f : Formula) (i : ℕ) → i < length c → bit (translate c f) i ≡ bit c i
+kept c f i h =
+    let g = grown c f in
+    rw (g .whole, wires-append) (wires-old (wiresFrom [] c) (g .added) i (rw bits-length h))
 
 -- The code of a formula
 
@@ -281,7 +219,7 @@ last-two f g item p q h c =
     let m = grown c f in
     let n = grown d g in
     last-item e item (last d) (last e) (t .1 .0) (λ _. (omega arith, omega arith))
-    ∙ (λ k. means item ((kept g d (last d) (omega arith) ∙ p (s .0) c) k) (q (t .0) d k))
+    ∙ (λ k. means item ((kept d g (last d) (omega arith) ∙ p (s .0) c) k) (q (t .0) d k))
 
 pub last-wire : (f : Formula) → Each InRange (postfix f) → (c : Code) → wire (wiresFrom [] (translate c f)) (last (translate c f)) ≡ holds f
 unfolding translate holds postfix

@@ -1,10 +1,8 @@
--- Code written behind code. An instruction is a row of numbers, and numbers that are written one behind the other, each by `write_number`, are one run of bytes; so are instructions
--- one behind the other, wherever there is room for all of them.
+-- Code written behind code. An instruction is a row of numbers, and numbers that are written one behind the other, each by `write_number`, are as if written at once; so are
+-- instructions one behind the other, wherever there is room for all of them.
 use mathlib.Core.Path.{_≡_, refl, sym, ap, subst, _∙_}
 use mathlib.Core.List.{List, [], _∷_, _++_, append-assoc}
-use mathlib.Core.Logic.{by-cases}
-use Prim.Native.Nat.{ℕ, zero, suc, _+_, _-_, _≤_}
-use native.Mathlib.Decide.{decLt}
+use Prim.Native.Nat.{ℕ, suc, _+_, _-_, _≤_}
 use native.Mathlib.Omega.{arith}
 use lib.ListN.{length, length-append}
 use Rattle.reading.specs.InTurn.{bytesOfAll}

@@ -1,19 +1,21 @@
--- The third demand: "For each accepted rule, given an output buffer that holds the code, the code is written and the sequencer accepts it. Run over any clip of 1 to 65,535 frames,
--- last to first, into a buffer of at least that length, it writes 1 for a frame exactly when the clip from that frame to its end satisfies the rule, otherwise 0."
+-- The third demand: for each accepted rule, given an output buffer that holds the code, the code is written and the sequencer accepts it; run over any clip of 1 to 65,535 frames,
+-- last to first, into a buffer of at least that length, it writes 1 for a frame exactly when the clip from that frame to its end satisfies the rule, otherwise 0.
 use mathlib.Core.Path.{_≡_}
 use mathlib.Core.List.{List}
 use Prim.Native.Nat.{ℕ, _≤_, _<_}
-use lib.ListN.{length, getD, drop}
+use lib.ListN.{length, getD, take, drop}
+use Rattle.reading.specs.Buffers.{AllBytes}
 use Rattle.reading.specs.Frames.{Clip}
 use Rattle.reading.specs.Limits.{limits}
 use Rattle.rules.specs.Formula.{Formula}
-use Rattle.rules.specs.Loading.{readRule}
+use Rattle.rules.specs.Loading.{Items, accepted, readRule}
 use Rattle.rules.specs.Meaning.{Holds}
 use Rattle.sequencer.specs.Loading.{readCode, codeOf, loadedOf}
 use Rattle.sequencer.specs.Running.{ranOf, bufferAfter}
 use Rattle.sequencer.specs.declared.load.Loaded.{Loaded}
 use Rattle.sequencer.specs.declared.run.Ran.{Ran}
 use Rattle.emitter.specs.Emitting.{emittedOf, outAfter}
+use Rattle.emitter.specs.Translation.{codeBytes}
 use Rattle.emitter.specs.declared.emit.Emitted.{Emitted}
 
 -- What a caller of `emit` knows of a rule's bytes, the output buffer before, the answer, and the buffer after: its contract
@@ -38,3 +40,10 @@ pub record Meets (f : Formula) (code : List ℕ) : Type 0 where
   pub loads : (n : ℕ) × (loadedOf (readCode code) ≡ Loaded.Accepted n)
   pub judges : (clip before : List ℕ) → 1 ≤ length clip → length clip ≤ limits .frames → length clip ≤ length before → (answer : Ran) (after : List ℕ)
       → RunSays code clip before answer after → (answer ≡ Ran.Done) × Verdicts f clip before after
+
+-- The demand: of an accepted rule and a buffer that holds its code, `emit` answers a length, and so many bytes of the buffer are code that meets the demand for the rule's formula
+abbrev pub DemandThree : Type 0
+DemandThree =
+    (rule before : List ℕ) (is : Items) (f : Formula) → AllBytes rule → readRule rule ≡ accepted is f → length (codeBytes f) ≤ length before
+    → (answer : Emitted) (after : List ℕ) → EmitSays rule before answer after
+    → (n : ℕ) × (answer ≡ Emitted.Length n) × Meets f (take n after)

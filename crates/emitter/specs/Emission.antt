@@ -1,4 +1,4 @@
--- How emitting stands for the formulas that wait on the stack. Contracts of inner functions cite it; `emit` says nothing of it.
+-- Emitting a rule item by item. Document 01: "Emitted code, for each item in order after its operands". Contracts of inner functions cite this; `emit` says nothing of it.
 use mathlib.Core.Bool.{cond}
 use mathlib.Core.List.{List, [], _∷_, _++_}
 use Prim.Native.Nat.{ℕ, zero, suc, _+_, _-_, _≤_, _<_}
@@ -13,7 +13,7 @@ use Rattle.rules.specs.declared.item.Item.{Item}
 use Rattle.rules.specs.declared.load.Rule.{Rule}
 use Rattle.sequencer.specs.Code.{Code, bytesOf}
 use Rattle.emitter.specs.Emitting.{mostCodeBytes}
-use Rattle.emitter.specs.Translation.{itemCode, last, translate}
+use Rattle.emitter.specs.Translation.{itemCode, translate}
 use Rattle.emitter.specs.Writing.{endAfter, Room}
 use Rattle.emitter.specs.declared.emission.Emission.{Emission}
 
@@ -21,11 +21,6 @@ use Rattle.emitter.specs.declared.emission.Emission.{Emission}
 unfoldable pub stackCode : List Formula → Code
 stackCode [] = []
 stackCode (f ∷ st) = translate (stackCode st) f
-
--- The numbers of their bits
-unfoldable pub bitsOf : List Formula → List ℕ
-bitsOf [] = []
-bitsOf (f ∷ st) = last (stackCode (f ∷ st)) ∷ bitsOf st
 
 -- The bit that stands so far below the top of a stack; 0 if there are not so many
 unfoldable pub fromTop : List ℕ → ℕ → ℕ → ℕ
@@ -51,14 +46,14 @@ pub record Next (out : List ℕ) (e : Emission) (item : Item) : Type 0 where
   pub room : Room out (e .end) (ownCode e item)
 
 -- The item that stands in a rule's columns
-unfoldable pub itemAt : Rule → ℕ → Item
-itemAt rule k =
+unfoldable pub itemIn : Rule → ℕ → Item
+itemIn rule k =
     itemOf (getD (rule .codes) k 0) (getD (rule .flags) k 0) (getD (rule .lowers) k 0) (getD (rule .uppers) k 0)
 
 -- The first so many of them
 unfoldable pub itemsIn : Rule → ℕ → Items
 itemsIn rule zero = []
-itemsIn rule (suc n) = itemsIn rule n ++ itemAt rule n ∷ []
+itemsIn rule (suc n) = itemsIn rule n ++ itemIn rule n ∷ []
 
 -- An item that can be emitted behind those before it
 pub record Ready (before : Items) (item : Item) : Type 0 where
@@ -71,5 +66,5 @@ pub record Ready (before : Items) (item : Item) : Type 0 where
 -- A rule of so many items that can be emitted into a buffer, one after the other
 pub record Emits (rule : Rule) (n : ℕ) (out : List ℕ) : Type 0 where
   pub few : n ≤ limits .items
-  pub ready : (k : ℕ) → k < n → Ready (itemsIn rule k) (itemAt rule k)
+  pub ready : (k : ℕ) → k < n → Ready (itemsIn rule k) (itemIn rule k)
   pub room : mostCodeBytes ≤ length out

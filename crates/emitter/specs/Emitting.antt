@@ -4,18 +4,18 @@ use mathlib.Core.Bool.{cond}
 use mathlib.Core.List.{List, []}
 use Prim.Native.Nat.{ℕ, _+_, _*_}
 use lib.ListN.{length}
+use Rattle.reading.specs.Buffers.{tooShort, over}
 use Rattle.reading.specs.Limits.{limits}
 use Rattle.reading.specs.declared.refusal.Refusal.{Refusal}
 use Rattle.rules.specs.Loading.{Reading, accepted, refused}
-use Rattle.reading.specs.Buffers.{tooShort, over}
 use Rattle.emitter.specs.Translation.{codeBytes}
 use Rattle.emitter.specs.declared.emit.Emitted.{Emitted}
 
--- The most instructions of emitted code: three for each item, and two more for each timed one
+-- A bound on the instructions of emitted code: three for each item, and two more for each timed one
 abbrev pub mostInstructions : ℕ
 mostInstructions = 3 * limits .items + 2 * limits .timed
 
--- The most bytes of emitted code: five for an instruction, and two more for each REACH
+-- A bound on its bytes: five for an instruction, and two more for each REACH, of which a timed item has one
 abbrev pub mostCodeBytes : ℕ
 mostCodeBytes = 5 * mostInstructions + 2 * limits .timed
 

@@ -1,5 +1,5 @@
 -- Samples of emitted code: one table, and what it is for a row to be right. Document 01: "* Rule `12 00 32 02 04` emits `02 00 01 04 01 00 02 05 02 02`" and "* `12 00 12 01 30 01 03`
--- over clip `00 01 02` gives `01 01 00`"; each item of its table of emitted code, with a = 0 and with a > 0; and the refusals.
+-- over clip `00 01 02` gives `01 01 00`"; each item of its table of emitted code, with a = 0 and with a > 0; and refusals of the rule and 16.
 use mathlib.Core.Path.{_≡_}
 use mathlib.Core.List.{List, [], _∷_}
 use Prim.Native.Nat.{ℕ}

@@ -22,7 +22,7 @@ unfoldable pub laterBy : ℕ → ℕ → Code
 laterBy i zero = []
 laterBy i (suc a) = Later i (suc a) ∷ []
 
--- REACH of two bits b−a, whose number is n, and LATER a
+-- REACH b−a of bits i and j, which is instruction n, and LATER a of it
 unfoldable pub timed : ℕ → ℕ → ℕ → ℕ → ℕ → Code
 timed n i j a b = Reach i j (b - a) ∷ laterBy n a
 
@@ -47,13 +47,15 @@ last c = length c - 1
 abbrev pub behind : Code → Item → ℕ → ℕ → Code
 behind c item left right = c ++ itemCode (length c) item left right
 
--- The same of an item that has no operand, one, whose code is d, or two, whose code is d and then e
+-- The same of an item without operands
 abbrev pub alone : Code → Item → Code
 alone c item = behind c item 0 0
 
+-- The same of an item whose operand's code ends d
 abbrev pub afterOne : Code → Item → Code
 afterOne d item = behind d item 0 (last d)
 
+-- The same of an item whose left operand's code ends d, and whose right operand's ends e, which is d with more behind it
 abbrev pub afterTwo : Code → Code → Item → Code
 afterTwo d e item = behind e item (last d) (last e)
 
@@ -74,6 +76,6 @@ translate c (Formula.Globally a b f) = afterOne (translate c f) (Item.Globally a
 abbrev pub codeFor : Formula → Code
 codeFor f = translate [] f
 
--- The same as bytes: instruction numbers, operands and w in the shortest form
+-- The same as bytes, every number in its shortest form
 abbrev pub codeBytes : Formula → List ℕ
 codeBytes f = bytesOfAll bytesOf (codeFor f)

@@ -2,11 +2,11 @@
 ghost use mathlib.Core.Path.{_≡_};
 ghost use Prim.Native.Nat.{_≤_};
 ghost use lib.ListN.{length};
+ghost use Rattle.reading.specs.Buffers.{over};
 ghost use Rattle.reading.specs.InTurn.{bytesOfAll};
 ghost use Rattle.reading.specs.Limits.{limits};
 ghost use Rattle.rules.specs.Loading.{stackOf};
 ghost use Rattle.sequencer.specs.Code.{bytesOf};
-ghost use Rattle.reading.specs.Buffers.{over};
 ghost use Rattle.emitter.specs.Writing.{Wrote};
 ghost use Rattle.emitter.specs.Emission.{stackCode, fromTop, ownCode, nextOf, Next, itemsIn, Emits};
 use crate::item::emit_item;

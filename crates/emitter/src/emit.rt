@@ -8,7 +8,7 @@ use reading::refusal::Refusal;
 use rules::load::Loaded;
 use rules::load::decode;
 
-// The most bytes of emitted code: a buffer of so many always holds it.
+// A bound on the bytes of emitted code: a buffer of so many always holds it.
 pub const MOST_CODE: usize = 1_152;
 
 // What emitting answers: the length of the code, or the refusal.
@@ -17,7 +17,7 @@ pub enum Emitted {
     Refused(Refusal),
 }
 
-// The most bytes of emitted code, as a value.
+// The bound, as a value.
 pub fn most_code() -> usize
     ensures { λ r. ⌜ r ≡ mostCodeBytes ⌝ }
 {

@@ -8,13 +8,10 @@ use lib.ListN.{length}
 use Rattle.reading.specs.Buffers.{tooShort}
 
 pub too-short : (out answer : List ℕ) → length out < length answer → tooShort out answer ≡ true
-unfolding tooShort
 too-short out answer h = lt-ltb (length out) (length answer) h
 
 pub long-enough : (out answer : List ℕ) → length answer ≤ length out → tooShort out answer ≡ false
-unfolding tooShort
 long-enough out answer h = le-ltb (length out) (length answer) h
 
-pub fits : (out answer : List ℕ) → tooShort out answer ≡ false → length answer ≤ length out
-unfolding tooShort
-fits out answer e = ltb-false (length out) (length answer) e
+pub not-short : (out answer : List ℕ) → tooShort out answer ≡ false → length answer ≤ length out
+not-short out answer e = ltb-false (length out) (length answer) e

@@ -11,3 +11,8 @@ else-taken false other e = (refl, e)
 pub neither : (a b : Bool) → (a || b) ≡ false → (a ≡ false) × (b ≡ false)
 neither true b e = absurd (let z : _≡_ {A = ℕ} 0 1 = cc in omega arith)
 neither false b e = (refl, e)
+
+-- a test that does not hold
+pub bool-false : (t : Bool) → (t ≡ true → ⊥) → t ≡ false
+bool-false true h = absurd (h refl)
+bool-false false h = refl

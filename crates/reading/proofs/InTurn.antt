@@ -8,13 +8,14 @@ use Prim.Native.Nat.{ℕ, zero, suc, _+_, _-_, _≤_, _<_}
 use native.Mathlib.Decide.{decLt}
 use native.Mathlib.Omega.{arith}
 use lib.ListN.{length, length-append, drop-of-length-le}
+use Rattle.reading.specs.Buffers.{AllBytes}
 use Rattle.reading.specs.Each.{Each}
 use Rattle.reading.specs.InTurn.{Verdict, fine, bad, Kind, Walked, items, refused, afterRead, afterJudged, inTurn, walked, bytesOfAll}
 use Rattle.reading.specs.Items.{itemAt, itemBytes, numbersOf, noCode}
 use Rattle.reading.specs.declared.item.Table.{Table}
 use Rattle.reading.specs.declared.item.Read.{Read}
 use Rattle.reading.specs.declared.refusal.Refusal.{Refusal}
-use Rattle.reading.proofs.Bytes.{AllBytes, Stands, Fitting, item-there, item-back, joined, parted}
+use Rattle.reading.proofs.Bytes.{Stands, Fitting, item-there, item-back, joined, parted}
 use Rattle.reading.proofs.Items.{ended, end-back}
 
 -- what is read before the end lies before it

@@ -1,5 +1,5 @@
 -- Laws of `written` and `placeAfter`: bytes that fit stand from the place on and the next place is behind them, and bytes that don't leave all as it was. As stores one by
--- one, bytes behind bytes are one run of bytes.
+-- one, bytes written behind bytes are as if all were written at once.
 use mathlib.Core.Path.{_≡_}
 use mathlib.Core.List.{List, [], _∷_, _++_}
 use Prim.Native.Nat.{ℕ, suc, _+_, _≤_, _<_}
@@ -44,7 +44,7 @@ sets-append buffer at (x ∷ xs) ys =
     let e : at + suc (length xs) ≡ suc at + length xs = omega arith in
     rw e (sets-append (set buffer at x) (suc at) xs ys)
 
--- bytes behind bytes, where all of them fit: the second find room, and both together are one run of bytes
+-- bytes behind bytes, where all of them fit: the second find room, and both are as if written at once
 module _ (buffer : List ℕ) (at : ℕ) (xs ys : List ℕ) (fits : at + length (xs ++ ys) ≤ length buffer) where
   pub room-more : placeAfter buffer at xs + length ys ≤ length (written buffer at xs)
   room-more =

@@ -5,9 +5,9 @@ use mathlib.Core.List.{List, [], _∷_, _++_, append-assoc}
 use Prim.Native.Nat.{ℕ}
 use native.Mathlib.Omega.{arith}
 use lib.ListN.{length}
+use Rattle.reading.specs.Buffers.{AllBytes}
 use Rattle.reading.specs.InTurn.{Verdict, Walked, walked}
 use Rattle.reading.specs.declared.refusal.Refusal.{Refusal}
-use Rattle.reading.proofs.Bytes.{AllBytes}
 use Rattle.reading.proofs.InTurn.{walked-back}
 use Rattle.rules.specs.Accepted.{IsRule}
 use Rattle.rules.specs.Formula.{Formula, True, False, Flag, Not, And, Or, Until, Release, Eventually, Globally}

@@ -33,12 +33,12 @@ either true y e k = (λ h. inl (e .0 refl), λ _. refl)
 either false y e k = (λ h. inr (k .0 h), ⊎-elim (λ a. absurd (false≢true (e .1 a))) (k .1))
 
 -- One of the first n places of a clip has R, and each place before it has L
-record Found (n : ℕ) (L R : Clip → Type 0) (d : Clip) : Type 0 where
-  place : ℕ
-  near : place < n
-  inside : place < length d
-  right : R (drop place d)
-  left : (j : ℕ) → j < place → L (drop j d)
+pub record Found (n : ℕ) (L R : Clip → Type 0) (d : Clip) : Type 0 where
+  pub place : ℕ
+  pub near : place < n
+  pub inside : place < length d
+  pub right : R (drop place d)
+  pub left : (j : ℕ) → j < place → L (drop j d)
 
 module _ (L R : Clip → Type 0) where
   -- The place found is the first one, or it lies in the rest
@@ -96,7 +96,7 @@ module _ (L R : Clip → Type 0) where
 
 -- The law of the four timed kinds
 module _ {l r : Clip → Bool} {L R : Clip → Type 0} (ls : (d : Clip) → (l d ≡ true) ↔ L d) (rs : (d : Clip) → (r d ≡ true) ↔ R d) where
-  found : (n : ℕ) (d : Clip) → (within n l r d ≡ true) ↔ Found n L R d
+  pub found : (n : ℕ) (d : Clip) → (within n l r d ≡ true) ↔ Found n L R d
   unfolding within
   found zero d = (λ h. absurd (false≢true h), λ w. absurd (omega arith))
   found (suc n) [] = (λ h. absurd (false≢true h), λ w. absurd (omega arith))

@@ -268,25 +268,25 @@ fn cut() -> bool {
 }
 
 // Answers a case and says whether to go on.
-fn answer_case(kind: u8, code: &[u8], second: &[u8], third: &mut [u8]) -> bool {
+fn answer_case(kind: u8, first: &[u8], second: &[u8], third: &mut [u8]) -> bool {
     if kind == b'l' {
-        answer_load(code);
+        answer_load(first);
         return true;
     }
     if kind == b's' {
-        answer_step(code, byte_at(second, 0), third);
+        answer_step(first, byte_at(second, 0), third);
         return true;
     }
     if kind == b'r' {
-        answer_run(code, second, &mut *third);
+        answer_run(first, second, &mut *third);
         return true;
     }
     if kind == b'e' {
-        answer_emit(code, &mut *third);
+        answer_emit(first, &mut *third);
         return true;
     }
     if kind == b'j' {
-        answer_judge(code, second, &mut *third);
+        answer_judge(first, second, &mut *third);
         return true;
     }
     cut()
@@ -311,53 +311,53 @@ fn read_bytes(buffer: &mut [u8]) -> usize {
 }
 
 // Reads the last bytes of a case, and answers it.
-fn read_third(kind: u8, code: &[u8], second: &[u8], third: &mut [u8]) -> bool {
+fn read_third(kind: u8, first: &[u8], second: &[u8], third: &mut [u8]) -> bool {
     let length = read_bytes(&mut *third);
     if third.len() < length {
         return cut();
     }
-    answer_case(kind, code, second, &mut third[0..length])
+    answer_case(kind, first, second, &mut third[0..length])
 }
 
 // Reads a case from its second bytes on, and answers it.
-fn read_second(kind: u8, code: &[u8], second: &mut [u8], third: &mut [u8]) -> bool {
+fn read_second(kind: u8, first: &[u8], second: &mut [u8], third: &mut [u8]) -> bool {
     let length = read_bytes(&mut *second);
     if second.len() < length {
         return cut();
     }
-    read_third(kind, code, &second[0..length], &mut *third)
+    read_third(kind, first, &second[0..length], &mut *third)
 }
 
 // Reads a case behind its kind, and answers it.
-fn read_first(kind: u8, code: &mut [u8], second: &mut [u8], third: &mut [u8]) -> bool {
-    let length = read_bytes(&mut *code);
-    if code.len() < length {
+fn read_first(kind: u8, first: &mut [u8], second: &mut [u8], third: &mut [u8]) -> bool {
+    let length = read_bytes(&mut *first);
+    if first.len() < length {
         return cut();
     }
-    read_second(kind, &code[0..length], &mut *second, &mut *third)
+    read_second(kind, &first[0..length], &mut *second, &mut *third)
 }
 
 // Reads the next case, answers it, and says whether to go on.
-fn answer_next(code: &mut [u8], second: &mut [u8], third: &mut [u8]) -> bool {
+fn answer_next(first: &mut [u8], second: &mut [u8], third: &mut [u8]) -> bool {
     let mut kind = [0; 1];
     let got = io::read_full(STDIN_FILENO, &mut kind);
     if got == 0 {
         return false;
     }
-    read_first(kind[0], &mut *code, &mut *second, &mut *third)
+    read_first(kind[0], &mut *first, &mut *second, &mut *third)
 }
 
 // A proved loop has to end, and nothing says that the stream does: the turns are counted down, from a number that no run uses up.
-fn answer_all(code: &mut [u8], second: &mut [u8], third: &mut [u8]) {
+fn answer_all(first: &mut [u8], second: &mut [u8], third: &mut [u8]) {
     let mut turns = u64::MAX;
-    while turns > 0 && answer_next(&mut *code, &mut *second, &mut *third) {
+    while turns > 0 && answer_next(&mut *first, &mut *second, &mut *third) {
         turns -= 1;
     }
 }
 
 fn main() {
-    let mut code = [0; MOST_BYTES];
+    let mut first = [0; MOST_BYTES];
     let mut second = [0; MOST_BYTES];
     let mut third = [0; MOST_BYTES];
-    answer_all(&mut code, &mut second, &mut third);
+    answer_all(&mut first, &mut second, &mut third);
 }

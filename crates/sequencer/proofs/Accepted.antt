@@ -5,10 +5,10 @@ use mathlib.Core.List.{List}
 use Prim.Native.Nat.{ℕ, _*_, _≤_}
 use native.Mathlib.Omega.{arith}
 use lib.ListN.{length, length-append}
+use Rattle.reading.specs.Buffers.{AllBytes}
 use Rattle.reading.specs.InTurn.{fine, Walked, items, refused, bytesOfAll}
 use Rattle.reading.specs.Limits.{limits}
 use Rattle.reading.specs.Padded.{padded}
-use Rattle.reading.proofs.Bytes.{AllBytes}
 use Rattle.reading.proofs.InTurn.{walked-back}
 use Rattle.sequencer.specs.Code.{Instruction, Code, bytesOf}
 use Rattle.sequencer.specs.Loading.{judgeOf, countsOf, verdictOf, codeKind, readCode, loadedOf, codeOf, flat, programOf}

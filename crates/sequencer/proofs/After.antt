@@ -10,6 +10,7 @@ use native.Mathlib.Omega.{arith}
 use lib.Dec.{leb·zero, leb·suc-zero, leb·suc-suc}
 use lib.ListN.{length, getD, drop, replicate, length-append, replicate-append-replicate, List·getD-map}
 use lib.Seq.{take-append-seam, take-append-add, drop-append-seam, drop-append-add, getD-append-seam, set-append-seam}
+use Rattle.reading.specs.Buffers.{over}
 use Rattle.reading.specs.Each.{Each}
 use Rattle.reading.specs.Frames.{Clip}
 use Rattle.reading.specs.Limits.{limits}
@@ -20,7 +21,6 @@ use Rattle.sequencer.specs.Rows.{rowOf}
 use Rattle.sequencer.specs.Registers.{counterOf, kept, freshRegisters, start, shifted, execute, executed, registersOf, outputOf}
 use Rattle.sequencer.specs.Good.{Good}
 use Rattle.sequencer.specs.After.{window, ownCounter, ownDelays, countersOf, delaysOf, registersAfter, stepsOver}
-use Rattle.reading.specs.Buffers.{over}
 use Rattle.sequencer.proofs.Counting.{good-counters, good-delays, good-lines}
 
 -- A line of bits

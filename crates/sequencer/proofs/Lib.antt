@@ -1,5 +1,6 @@
 -- The theorems about the definitions, and the laws that the functions' proofs cite.
 pub mod Counters
+pub mod Wires
 pub mod After
 pub mod Instructions
 pub mod Counting

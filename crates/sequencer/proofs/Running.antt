@@ -1,15 +1,17 @@
 -- The run over a clip, frame by frame from the last. `Runs` says where it stands: the registers are those after the frames read, and the buffer has a verdict for each of them.
 -- One frame more is one step, and by the meaning of registers and bits it leads to the registers and the verdict of the longer clip.
-use mathlib.Core.Path.{_≡_, refl, sym, subst, _∙_}
+use mathlib.Core.Path.{_≡_, refl, sym, ap, subst, _∙_}
 use mathlib.Core.Bool.{Bool, true, false}
 use mathlib.Core.List.{List, [], _∷_, _++_, append-assoc}
-use Prim.Native.Nat.{ℕ, suc, _+_, _≤_, _<_}
+use Prim.Native.Nat.{ℕ, zero, suc, _+_, _≤_, _<_}
 use native.Mathlib.Numerals.{add-one}
 use native.Mathlib.Omega.{arith}
 use borrow.Author.Tests.{ltb-false}
 use lib.Dec.{ltb}
 use lib.ListN.{length, getD, take, drop, set, replicate, length-set, length-take, take-append-drop, drop-of-length-le}
 use lib.Seq.{drop-cons, take-suc, set-at}
+use Rattle.reading.specs.Buffers.{over}
+use Rattle.reading.specs.Frames.{Clip}
 use Rattle.reading.specs.InTurn.{Walked}
 use Rattle.reading.specs.Limits.{limits}
 use Rattle.reading.specs.declared.refusal.Refusal.{Refusal}
@@ -18,7 +20,6 @@ use Rattle.sequencer.specs.Code.{Code}
 use Rattle.sequencer.specs.Loading.{readCode, codeOf}
 use Rattle.sequencer.specs.Registers.{freshRegisters, start, executed}
 use Rattle.sequencer.specs.Running.{byteOf, verdicts, badClip, ranOf, bufferAfter}
-use Rattle.reading.specs.Buffers.{over}
 use Rattle.sequencer.specs.declared.registers.Registers.{Registers}
 use Rattle.sequencer.specs.declared.run.Ran.{Ran}
 use Rattle.sequencer.specs.Programs.{codeIn, Fits, Leaves, Loads}
@@ -123,3 +124,16 @@ module _ (bytes numbers : List ℕ) (n : ℕ) (clip out : List ℕ) (a : Ready b
 
 pub ran-refused : (bytes clip out : List ℕ) (r : Refusal) → readCode bytes ≡ Walked.refused r → Ran.Refused r ≡ ranOf (readCode bytes) clip out
 ran-refused bytes clip out r e = rw e
+
+-- The bytes of a run: one for each frame, by the output after the clip from it
+
+pub verdict-at : (code : Code) (clip : Clip) (i : ℕ) → i < length clip → getD (verdicts code clip) i 0 ≡ byteOf (output code (drop i clip))
+unfolding verdicts
+verdict-at code [] i h = absurd (omega arith)
+verdict-at code (x ∷ c) zero h = refl
+verdict-at code (x ∷ c) (suc i) h = verdict-at code c i (omega arith)
+
+pub verdicts-length : (code : Code) (clip : Clip) → length (verdicts code clip) ≡ length clip
+unfolding verdicts
+verdicts-length code [] = refl
+verdicts-length code (x ∷ c) = ap suc (verdicts-length code c)

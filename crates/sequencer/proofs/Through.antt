@@ -10,6 +10,7 @@ use borrow.Author.Tests.{ne-eqb}
 use lib.Dec.{eqb}
 use lib.ListN.{length, getD, drop, set, length-append, length-set, length-take, length-drop, List·getD-append}
 use lib.Seq.{drop-cons, set-at, getD-set-other}
+use Rattle.reading.specs.Buffers.{over}
 use Rattle.reading.specs.Frames.{hasFlag}
 use Rattle.reading.specs.Limits.{limits}
 use Rattle.sequencer.specs.Bits.{Counter, none, count, next, isOn}
@@ -19,7 +20,6 @@ use Rattle.sequencer.specs.Rows.{rowOf}
 use Rattle.sequencer.specs.Registers.{Working, start, bit, shifted, execute, executed, counterOf, kept}
 use Rattle.sequencer.specs.declared.registers.Registers.{Registers}
 use Rattle.sequencer.specs.Programs.{instructionAt, codeIn, Fits, Leaves}
-use Rattle.reading.specs.Buffers.{over}
 use Rattle.sequencer.proofs.Counting.{reaches-more, distance-more}
 use Rattle.sequencer.proofs.Flat.{code-length, fine-at}
 use Rattle.sequencer.proofs.Instructions.{is-one, is-flag, is-nand, is-reach, is-later}

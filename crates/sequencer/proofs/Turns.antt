@@ -5,6 +5,7 @@ use mathlib.Core.List.{List, [], _∷_, _++_}
 use Prim.Native.Nat.{ℕ, _+_, _*_, _≤_}
 use native.Mathlib.Omega.{arith}
 use lib.ListN.{length, set, replicate}
+use Rattle.reading.specs.Buffers.{AllBytes}
 use Rattle.reading.specs.InTurn.{Walked}
 use Rattle.reading.specs.Items.{itemAt}
 use Rattle.reading.specs.Limits.{limits}
@@ -12,7 +13,7 @@ use Rattle.reading.specs.Padded.{padded}
 use Rattle.reading.specs.declared.item.Read.{Read}
 use Rattle.reading.specs.declared.item.Table.{Table}
 use Rattle.reading.specs.declared.refusal.Refusal.{Refusal}
-use Rattle.reading.proofs.Bytes.{AllBytes, item-back}
+use Rattle.reading.proofs.Bytes.{item-back}
 use Rattle.reading.proofs.InTurn as in-turn
 use Rattle.sequencer.specs.Code.{Code, instructionOf}
 use Rattle.sequencer.specs.Rows.{rowOf, judgeRow}

@@ -2,11 +2,11 @@
 use mathlib.Core.Bool.{Bool}
 use mathlib.Core.List.{List, [], _∷_, _++_}
 use Prim.Native.Nat.{ℕ, zero, suc}
+use Rattle.reading.specs.Buffers.{over}
 use Rattle.reading.specs.Frames.{Clip}
 use Rattle.sequencer.specs.Bits.{Wire, counter, later, wire, wireOf}
 use Rattle.sequencer.specs.Code.{Instruction, One, Flag, Nand, Reach, Later, Code}
 use Rattle.sequencer.specs.Registers.{kept, freshRegisters, start, executed, registersOf}
-use Rattle.reading.specs.Buffers.{over}
 use Rattle.sequencer.specs.declared.registers.Registers.{Registers}
 
 -- The last d bits of a wire, the oldest first

@@ -4,12 +4,12 @@ use mathlib.Core.Bool.{Bool}
 use mathlib.Core.List.{List, [], _∷_, _++_}
 use Prim.Native.Nat.{ℕ, zero, suc, _+_, _*_, _≤_}
 use lib.ListN.{length, getD}
+use Rattle.reading.specs.Buffers.{over}
 use Rattle.reading.specs.Limits.{limits}
 use Rattle.sequencer.specs.Code.{Instruction, Code, instructionOf}
 use Rattle.sequencer.specs.Good.{Good}
 use Rattle.sequencer.specs.Registers.{Working, outputOf}
 use Rattle.sequencer.specs.declared.registers.Registers.{Registers}
-use Rattle.reading.specs.Buffers.{over}
 
 -- The instruction that stands in an array of such numbers
 unfoldable pub instructionAt : List ℕ → ℕ → Instruction

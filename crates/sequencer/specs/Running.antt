@@ -5,7 +5,7 @@ use mathlib.Core.List.{List, [], _∷_}
 use Prim.Native.Nat.{ℕ}
 use lib.Dec.{ltb, eqb}
 use lib.ListN.{length}
-use Rattle.reading.specs.Buffers.{over}
+use Rattle.reading.specs.Buffers.{tooShort, over}
 use Rattle.reading.specs.Frames.{Clip}
 use Rattle.reading.specs.InTurn.{Walked, items, refused}
 use Rattle.reading.specs.Limits.{limits}
@@ -32,7 +32,7 @@ badClip frames = eqb frames 0 || ltb (limits .frames) frames
 abbrev pub ranOf : Walked Instruction → Clip → List ℕ → Ran
 ranOf (items code) clip out =
     cond (badClip (length clip)) (Ran.Refused Refusal.BadClip)
-    (cond (ltb (length out) (length clip)) (Ran.Refused Refusal.ShortOutput) Ran.Done)
+    (cond (tooShort out clip) (Ran.Refused Refusal.ShortOutput) Ran.Done)
 ranOf (refused r) clip out = Ran.Refused r
 
 -- What a run leaves in the output buffer, by its answer

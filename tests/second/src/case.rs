@@ -299,7 +299,7 @@ fn words_of_buffer(done: Result<String, Refusal>, buffer: &[u8]) -> String {
 ///   all registers after it, as in the line of a case;
 /// - run and judge: `done` or the refusal, and ` [BUFFER]` with every byte of the
 ///   buffer after it, two hex digits each;
-/// - emit: `length BYTES` or the refusal, and the buffer in the same way.
+/// - emit: `length LENGTH` or the refusal, and the buffer in the same way.
 pub fn answer(case: &Case) -> String {
     match case {
         Case::Load { code } => match code::load(code) {

@@ -115,8 +115,9 @@ mod tests {
     }
 
     #[test]
-    fn samples_of_01() {
+    fn the_sample_of_01_and_the_rule_of_its_run() {
         emits("12 00 32 02 04", "02 00 01 04 01 00 02 05 02 02");
+        // The code of the rule of its sample of a run.
         emits("12 00 12 01 30 01 03", "02 00 02 01 04 00 01 02 05 02 01");
     }
 

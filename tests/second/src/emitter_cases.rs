@@ -14,7 +14,8 @@ use crate::random_code::clip;
 use crate::rule::{load, Formula, Window, LARGEST_BOUND, MOST_ITEMS, MOST_LOWER, MOST_TIMED};
 use crate::write::write;
 
-/// Bounds at the places where their form or their standing changes.
+/// Bounds: 0, where LATER is left out, and 1; 127 and 128, where a second byte
+/// comes; 255, the largest.
 const BOUNDS: [usize; 5] = [0, 1, 127, 128, 255];
 
 /// A flag is in so many of 64 frames: from nearly none to nearly all.
@@ -70,6 +71,7 @@ pub fn emit_cases(seed: u64) -> Vec<Case> {
     rules.extend((0..5_000).map(|_| damaged_rule(&mut random)));
     let mut random = generator(seed, 407);
     rules.extend((0..3_000).map(|_| random_bytes(&mut random, 40)));
+    // 100,000 bytes, whose 65th item is refused.
     rules.push([&[0x10], &[0x20; 99_999][..]].concat());
     let mut random = generator(seed, 408);
     out.extend(rules.into_iter().map(|rule| emit_case(&mut random, rule)));
@@ -101,8 +103,8 @@ fn emit_case(random: &mut Random, rule: Vec<u8>) -> Case {
     }
 }
 
-/// The samples, some short rules and the one of the longest code, each with
-/// buffers of every length up to a little more than the code's.
+/// The samples, some short rules and one of the longest code, each with buffers
+/// of every length up to a little more than the code's.
 fn every_room(random: &mut Random, out: &mut Vec<Case>) {
     let mut rules = samples();
     rules.push(write(&longest_formula()));
@@ -152,6 +154,7 @@ fn every_operand(out: &mut Rules) {
         let many = formula_of_instructions(count);
         let mut formulas = operators(&many, &Formula::Flag(1), &windows);
         formulas.extend(operators(&Formula::Flag(1), &many, &windows));
+        // Those over the right operand alone are left out where that is the flag.
         formulas.retain(|f| f.items() > many.items());
         out.extend(formulas.iter().map(write));
     }
@@ -171,16 +174,18 @@ fn limits(random: &mut Random, out: &mut Rules) {
     }
 }
 
-/// A formula at all limits that has as many instructions as one can: 199.
+/// A formula at all limits whose code has 199 instructions and 661 bytes; none
+/// has more of either. The timed items come first, as the others read more bits
+/// for each instruction, and the numbers of bits take two bytes from 128 on.
 fn longest_formula() -> Formula {
     let w = Window { a: 16, b: 255 };
     let mut f = Formula::False;
-    for _ in 0..23 {
-        f = Formula::Or(Box::new(f), Box::new(Formula::False));
-    }
-    f = Formula::Release(w, Box::new(f), Box::new(Formula::False));
     for _ in 0..15 {
         f = Formula::Globally(w, Box::new(f));
+    }
+    f = Formula::Release(w, Box::new(f), Box::new(Formula::False));
+    for _ in 0..23 {
+        f = Formula::Or(Box::new(f), Box::new(Formula::False));
     }
     f
 }
@@ -491,7 +496,7 @@ mod tests {
     }
 
     #[test]
-    fn buffers_have_every_length_beside_the_code() {
+    fn buffers_have_the_lengths_around_the_code() {
         let mut seen = [0; 5];
         for case in emit_cases(1) {
             let Case::Emit { rule, buffer } = case else {
@@ -517,9 +522,10 @@ mod tests {
         assert_eq!(most(Formula::items), MOST_ITEMS);
         assert_eq!(most(Formula::timed), MOST_TIMED);
         assert_eq!(most(Formula::lower), MOST_LOWER);
-        let instructions = emit(&longest_formula()).len();
-        assert_eq!(instructions, 199);
-        assert_eq!(most(|f| emit(f).len()), instructions);
+        let longest = emit(&longest_formula());
+        assert_eq!((longest.len(), code::write(&longest).len()), (199, 661));
+        assert_eq!(most(|f| emit(f).len()), 199);
+        assert_eq!(most(|f| code::write(&emit(f)).len()), 661);
     }
 
     #[test]

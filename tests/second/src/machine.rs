@@ -126,21 +126,31 @@ pub fn verdicts(code: &[Instruction], clip: &[u8]) -> Vec<bool> {
     frames.iter().rev().map(output).collect()
 }
 
-/// A run: code, then 13, then 16. It writes one byte a frame from the buffer's
-/// first byte on, and nothing if it refuses.
-pub fn run(code: &[u8], clip: &[u8], buffer: &mut [u8]) -> Result<(), Refusal> {
+/// Writes the verdicts on a clip: 13, then 16. It writes one byte a frame from
+/// the buffer's first byte on, and nothing if it refuses.
+pub fn write_verdicts(
+    clip: &[u8],
+    buffer: &mut [u8],
+    verdicts: impl FnOnce() -> Vec<bool>,
+) -> Result<(), Refusal> {
     let refuse = |number| Refusal { number, place: 0 };
-    let code = load(code)?;
     if clip.is_empty() || clip.len() > MOST_FRAMES {
         return Err(refuse(13));
     }
     if buffer.len() < clip.len() {
         return Err(refuse(16));
     }
-    for (place, verdict) in verdicts(&code, clip).into_iter().enumerate() {
+    for (place, verdict) in verdicts().into_iter().enumerate() {
         buffer[place] = u8::from(verdict);
     }
     Ok(())
+}
+
+/// A run: code, then 13, then 16. It writes one byte a frame from the buffer's
+/// first byte on, and nothing if it refuses.
+pub fn run(code: &[u8], clip: &[u8], buffer: &mut [u8]) -> Result<(), Refusal> {
+    let code = load(code)?;
+    write_verdicts(clip, buffer, || verdicts(&code, clip))
 }
 
 #[cfg(test)]

@@ -1,9 +1,10 @@
 //! Whether a formula holds on a clip, word for word as document 01 says it.
-//! Asked about one frame, nothing is remembered between questions, so large
-//! windows inside each other take long; asked about all frames, the answers of
-//! each operand are kept.
+//! `holds` is asked about one frame and remembers nothing between questions, so
+//! large windows inside each other take long. `judge` doesn't ask it frame by
+//! frame; it goes by `verdicts`, which has the same questions, asks each operand
+//! about each frame once, and keeps the answers. A test shows that the two agree.
 
-use crate::machine::MOST_FRAMES;
+use crate::machine::write_verdicts;
 use crate::rule::{load, Formula, Refusal, Window};
 
 /// Whether the formula holds on the clip from frame `i`, which is a frame of
@@ -61,18 +62,8 @@ fn release(w: Window, n: usize, l: Operand, r: Operand) -> bool {
 /// Judges a clip by a rule's meaning: the rule, then 13, then 16. It writes one
 /// byte a frame from the buffer's first byte on, and nothing if it refuses.
 pub fn judge(rule: &[u8], clip: &[u8], buffer: &mut [u8]) -> Result<(), Refusal> {
-    let refuse = |number| Refusal { number, place: 0 };
     let rule = load(rule)?;
-    if clip.is_empty() || clip.len() > MOST_FRAMES {
-        return Err(refuse(13));
-    }
-    if buffer.len() < clip.len() {
-        return Err(refuse(16));
-    }
-    for (place, verdict) in verdicts(&rule.formula, clip).into_iter().enumerate() {
-        buffer[place] = u8::from(verdict);
-    }
-    Ok(())
+    write_verdicts(clip, buffer, || verdicts(&rule.formula, clip))
 }
 
 #[cfg(test)]
@@ -334,6 +325,7 @@ mod tests {
             assert_eq!(holds(&f, &clip, 0), every, "{f:?}");
         }
     }
+
     #[test]
     fn all_frames_at_once_are_as_one_by_one() {
         let mut random = Random::new(5);

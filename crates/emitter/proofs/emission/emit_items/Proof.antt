@@ -3,7 +3,7 @@ use mathlib.Core.Path.{refl}
 use Prim.Native.Nat.{_-_, _≤_}
 use native.Mathlib.Omega.{arith}
 use borrow.Author.Needs.{needs}
-use Rattle.emitter.specs.Emission.{itemAt, Emits}
+use Rattle.emitter.specs.Emission.{itemIn, Emits}
 use Rattle.emitter.proofs.InOrder.{Stands, stands-first, stands-next, stands-more, stands-length, stands-all}
 use Rattle.emitter.proofs.emission.emit_items.Statement.{statement}
 use Rattle.emitter.proofs.emission.emit_items.Tie as tie
@@ -42,7 +42,7 @@ item-of-requires : tie.Need-item-of-requires Inv-loop μ-loop
 item-of-requires c κs = search needs
 
 emit-next-requires : tie.Need-emit-next-requires Inv-loop μ-loop
-unfolding itemAt
+unfolding itemIn
 emit-next-requires c κs = let i = c .before .before .before .before .before .before .before .loop .inv in stands-next _ _ _ (i .0) _ _ _ (i .1) (omega arith) _ (c .before .item-of .ensures)
 
 add-k : tie.Need-add-k Inv-loop μ-loop
@@ -52,7 +52,7 @@ loop-less : tie.Need-loop-less Inv-loop μ-loop
 loop-less c = omega arith
 
 loop-again : tie.Need-loop-again Inv-loop μ-loop
-unfolding itemAt
+unfolding itemIn
 loop-again c = let i = c .before .before .before .before .before .before .before .before .before .before .loop .inv in (i .0, stands-more _ _ _ (i .0) _ _ _ (i .1) (omega arith) _ (c .before .before .before .before .item-of .ensures) _ _ (c .before .before .emit-next .ensures), omega arith)
 
 same-length : tie.Need-same-length Inv-loop μ-loop

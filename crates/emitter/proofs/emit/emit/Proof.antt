@@ -1,7 +1,7 @@
 -- `emit` meets its contract: the tests of rule and room are the definition's, in its order, and past them the code of the rule's items is copied.
 use mathlib.Core.Path.{refl, sym}
 use native.Mathlib.Omega.{arith}
-use Rattle.reading.proofs.Bytes.{AllBytes}
+use Rattle.reading.specs.Buffers.{AllBytes}
 use Rattle.emitter.proofs.Emitting.{Accepts, accepts, emits, part-inside, part-length, part-fits, answer-short, answer-length, answer-bytes, answer-refused}
 use borrow.Author.Needs.{needs}
 use Rattle.emitter.proofs.emit.emit.Statement.{statement}
@@ -26,16 +26,16 @@ emit-items-requires : tie.Need-emit-items-requires
 emit-items-requires c κs = emits _ _ _ (is-accepted (c .before .before)) _ refl
 
 returns : tie.Need-returns
-returns c = (answer-short _ _ _ (is-accepted (c .before .before .before .before .before)) _ refl _ _ (c .before .before .emit-items .ensures) _ (c .if1 .taken), refl)
+returns c = (answer-short _ _ _ (is-accepted (c .before .before .before .before .before)) _ _ _ (c .before .before .emit-items .ensures) _ (c .if1 .taken), refl)
 
 array-share-prefix-code : tie.Need-array-share-prefix-code
-array-share-prefix-code c = part-inside _ _ _ (is-accepted (c .before .before .before .before .before)) _ refl _ _ (c .before .before .emit-items .ensures)
+array-share-prefix-code c = part-inside _ _ _ (is-accepted (c .before .before .before .before .before)) _ _ _ (c .before .before .emit-items .ensures)
 
 slice-aggregate-copy : tie.Need-slice-aggregate-copy
-slice-aggregate-copy c = part-length _ _ _ (is-accepted (c .before .before .before .before .before .before)) _ refl _ _ (c .before .before .before .emit-items .ensures)
+slice-aggregate-copy c = part-length _ _ _ (is-accepted (c .before .before .before .before .before .before)) _ _ _ (c .before .before .before .emit-items .ensures)
 
 copy-requires : tie.Need-copy-requires
-copy-requires c κs = part-fits _ _ _ (is-accepted (c .before .before .before .before .before .before .before)) _ refl _ _ (c .before .before .before .before .emit-items .ensures) (c .before .before .before .before .before .before .before .before .before .before .before .before .args .out .now) (c .before .before .if1 .left)
+copy-requires c κs = part-fits _ _ _ (is-accepted (c .before .before .before .before .before .before .before)) _ _ _ (c .before .before .before .before .emit-items .ensures) (c .before .before .before .before .before .before .before .before .before .before .before .before .args .out .now) (c .before .before .if1 .left)
 
 enum-known-loaded-2 : tie.Need-enum-known-loaded-2
 enum-known-loaded-2 c = search needs
@@ -44,7 +44,7 @@ same-length : tie.Need-same-length
 same-length c = search needs
 
 returns-2 : tie.Need-returns-2
-returns-2 c = let a = is-accepted (c .before .before .before .before .before .before .before .before .before .before) in let w = c .before .before .before .before .before .before .before .emit-items .ensures in let fits = c .before .before .before .before .before .if1 .left in (answer-length _ _ _ a _ refl _ _ w _ fits, answer-bytes _ _ _ a _ refl _ _ w _ fits _ (c .before .before .copy .ensures .1))
+returns-2 c = let a = is-accepted (c .before .before .before .before .before .before .before .before .before .before) in let w = c .before .before .before .before .before .before .before .emit-items .ensures in let fits = c .before .before .before .before .before .if1 .left in (answer-length _ _ _ a _ _ _ w _ fits, answer-bytes _ _ _ a _ _ _ w _ fits _ (c .before .before .copy .ensures .1))
 
 returns-3 : tie.Need-returns-3
 returns-3 c = (answer-refused _ _ _ _ (c .before .before .before .decode .ensures) (sym (c .before .loaded2 .given .1)), refl)

@@ -2,12 +2,12 @@
 use borrow.Author.Needs.{needs}
 use native.Mathlib.Omega.{arith}
 use Prim.Native.Nat.{_-_, _<_}
+use Rattle.reading.specs.Buffers.{AllBytes}
 use Rattle.reading.specs.Items.{itemAt}
 use Rattle.reading.specs.declared.item.Read.{Read}
 use Rattle.reading.specs.declared.item.Table.{Table}
 use lib.ListN.{length}
 use mathlib.Core.Path.{_≡_, sym, ap, _∙_}
-use Rattle.reading.proofs.Bytes.{AllBytes}
 use Rattle.reading.proofs.InTurn.{forward, item-inside}
 use Rattle.rules.specs.Loading.{ruleOf}
 use Rattle.rules.proofs.Turns.{Turn, empty-rule, turn-first, turn-end, turn-refused, turn-judged, turn-ready, turn-more}

@@ -4,11 +4,11 @@ use native.Mathlib.Omega.{arith}
 use Prim.Native.Nat.{_+_, _-_, _≤_, _<_}
 use lib.ListN.{length}
 use mathlib.Core.Path.{_≡_, sym, ap, _∙_}
+use Rattle.reading.specs.Buffers.{AllBytes}
 use Rattle.reading.specs.Items.{itemAt}
 use Rattle.reading.specs.Limits.{limits}
 use Rattle.reading.specs.declared.item.Read.{Read}
 use Rattle.reading.specs.declared.item.Table.{Table}
-use Rattle.reading.proofs.Bytes.{AllBytes}
 use Rattle.reading.proofs.InTurn.{forward, item-inside, none-refused}
 use Rattle.sequencer.specs.Loading.{codeKind, programOf}
 use Rattle.sequencer.specs.Rows.{judgeRow}

@@ -1,7 +1,7 @@
 -- `run` meets its contract: the tests of code, clip and buffer are the definition's, in its order, and past them the frames are run.
 use native.Mathlib.Omega.{arith}
 use mathlib.Core.Path.{refl, sym}
-use Rattle.reading.proofs.Bytes.{AllBytes}
+use Rattle.reading.specs.Buffers.{AllBytes}
 use Rattle.sequencer.proofs.Accepted.{Ready, ready, not-ready}
 use Rattle.sequencer.proofs.Running.{ran-bad, ran-short, ready-loads, ran-done, ran-all, ran-refused}
 use borrow.Author.Needs.{needs}

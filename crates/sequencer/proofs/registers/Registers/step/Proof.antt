@@ -1,9 +1,9 @@
 -- `Registers::step` meets its contract: a program that is loaded is ready, and a frame through it is a step of its code.
 use lib.ListN.{length}
+use Rattle.reading.specs.Buffers.{AllBytes}
 use Rattle.reading.specs.Limits.{limits}
 use native.Mathlib.Omega.{arith}
 use mathlib.Core.Path.{_≡_, sym}
-use Rattle.reading.proofs.Bytes.{AllBytes}
 use Rattle.sequencer.proofs.Accepted.{Ready, ready, not-ready}
 use Rattle.sequencer.proofs.Stepping.{ready-fits, stepped-ready, stepped-refused}
 use borrow.Author.Needs.{needs}
