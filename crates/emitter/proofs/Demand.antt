@@ -1,7 +1,7 @@
 -- Demand 3. The emitter's answer and its buffer are the code of the rule's formula; that code is read back, and its output is the formula's computed meaning, which agrees with the
 -- paper's. So the byte that a run writes for a frame says whether the clip from it satisfies the rule. No one code can do that for two rules of which one always holds and one never.
 use mathlib.Core.Path.{_≡_, refl, ap, _∙_}
-use mathlib.Core.Bool.{Bool, true, false, cond}
+use mathlib.Core.Bool.{Bool, true, false}
 use mathlib.Core.List.{List, [], _∷_}
 use Prim.Native.Nat.{ℕ, zero, suc, _≤_, _<_}
 use native.Mathlib.Omega.{arith}
@@ -13,7 +13,6 @@ use Rattle.reading.specs.Frames.{Clip}
 use Rattle.reading.specs.InTurn.{items, inTurn, walked}
 use Rattle.reading.specs.Items.{itemAt, numbersFrom, look, ruleCodes}
 use Rattle.reading.specs.Limits.{limits}
-use Rattle.reading.specs.declared.refusal.Refusal.{Refusal}
 use Rattle.reading.proofs.Buffers.{long-enough}
 use Rattle.reading.proofs.Choices.{bool-false}
 use Rattle.rules.specs.Formula.{Formula}
@@ -32,6 +31,7 @@ use Rattle.emitter.specs.Demand.{EmitSays, RunSays, Verdicts, Meets, Dem
 use Rattle.emitter.specs.Translation.{codeFor, codeBytes}
 use Rattle.emitter.specs.declared.emit.Emitted.{Emitted}
 use Rattle.emitter.proofs.Accepted.{code-accepted}
+use Rattle.emitter.proofs.Emitting.{has-room}
 use Rattle.emitter.proofs.Wires.{output-holds}
 use Rattle.emitter.proofs.emit.emit.Reads as emit
 use Rattle.sequencer.proofs.run.run.Reads as run
@@ -71,7 +71,7 @@ read-meets f code bytes read says =
       loads = (length code, rw read);
       judges = λ clip before some most room answer after p.
           let runs : ranOf (readCode bytes) clip before ≡ Ran.Done =
-          rw (read, ne-eqb (length clip) 0 (omega arith), le-ltb (limits .frames) (length clip) most, le-ltb (length before) (length clip) room) in
+          rw (read, ne-eqb (length clip) 0 (omega arith), le-ltb (limits .frames) (length clip) most, long-enough before clip room) in
           let done : answer ≡ Ran.Done = p .0 ∙ runs in
           (done, rw (rw (done, read) at (p .1)) (all-verdicts f code says clip before room));
     }
@@ -81,7 +81,7 @@ pub demand-three : DemandThree
 demand-three rule before is f small read room answer after p =
     let r = accepted-rule rule is f small read in
     let answered : answer ≡ Emitted.Length (length (codeBytes f)) =
-    p .0 ∙ rw read (ap (λ short. cond short (Emitted.Refused Refusal.ShortOutput) (Emitted.Length (length (codeBytes f)))) (long-enough before (codeBytes f) room)) in
+    p .0 ∙ rw read (has-room is f before room) in
     let own : take (length (codeBytes f)) after ≡ codeBytes f =
     ap (take (length (codeBytes f))) (rw (answered, read) at (p .1)) ∙ take-at (codeBytes f) _ (length (codeBytes f)) refl in
     let says = output-holds f (rw (r .own-items) at (r .ranges)) in

@@ -1,7 +1,7 @@
 -- `emit` past its tests. A rule that is loaded and accepted has the items of one formula, each of which can be emitted behind those before it within the limits; so the code that its
 -- items make in order is the code of that formula, which is what the definition says.
 use mathlib.Core.Path.{_≡_, refl, sym, ap, _∙_}
-use mathlib.Core.Bool.{Bool, true, false, cond}
+use mathlib.Core.Bool.{Bool, cond}
 use mathlib.Core.List.{List, [], _∷_, _++_, append-nil}
 use Prim.Native.Nat.{ℕ, suc, _+_, _*_, _≤_, _<_}
 use native.Mathlib.Omega.{arith}
@@ -59,9 +59,17 @@ accepts bytes rule n h small own e =
       many = many;
     }
 
--- what is answered, by whether the buffer is too short
-abbrev answer : Formula → Bool → Emitted
-answer f short = cond short (Emitted.Refused Refusal.ShortOutput) (Emitted.Length (length (codeBytes f)))
+-- The answer to an accepted rule, by whether the buffer is too short
+
+module _ (is : Items) (f : Formula) (out : List ℕ) where
+  abbrev answer : Bool → Emitted
+  answer short = cond short (Emitted.Refused Refusal.ShortOutput) (Emitted.Length (length (codeBytes f)))
+
+  no-room : length out < length (codeBytes f) → emittedOf (accepted is f) out ≡ Emitted.Refused Refusal.ShortOutput
+  no-room h = ap answer (too-short out (codeBytes f) h)
+
+  pub has-room : length (codeBytes f) ≤ length out → emittedOf (accepted is f) out ≡ Emitted.Length (length (codeBytes f))
+  has-room h = ap answer (long-enough out (codeBytes f) h)
 
 -- Each of a rule's items can be emitted
 
@@ -135,20 +143,14 @@ module _ (bytes : List ℕ) (rule : Rule) (n : ℕ) (a : Accepts bytes rule n) w
 
     module _ (out : List ℕ) where
       pub answer-short : length out < m → Emitted.Refused Refusal.ShortOutput ≡ emittedOf (readRule bytes) out
-      answer-short h =
-          let f = a .formula in
-          let test : tooShort out (codeBytes f) ≡ true = too-short out (codeBytes f) (omega (arith, own-length)) in
-          rw (a .read) (ap (answer f) (sym test))
+      answer-short h = rw (a .read) (sym (no-room (a .items) (a .formula) out (omega (arith, own-length))))
 
       module _ (room : m ≤ length out) where
         pub part-fits : length (take m held) ≤ length out
         part-fits = omega (arith, part-length)
 
         pub answer-length : Emitted.Length m ≡ emittedOf (readRule bytes) out
-        answer-length =
-            let f = a .formula in
-            let test : tooShort out (codeBytes f) ≡ false = long-enough out (codeBytes f) (omega (arith, own-length)) in
-            rw (a .read, own-length) (ap (answer f) (sym test))
+        answer-length = rw (a .read, own-length) (sym (has-room (a .items) (a .formula) out (omega (arith, own-length))))
 
         pub answer-bytes : (after : List ℕ) → after ≡ take (length (take m held)) (take m held) ++ drop (length (take m held)) out → after ≡ over (bytesFor (readRule bytes)) out
         answer-bytes after e = e ∙ rw (first-part, a .read, take-length)
@@ -162,12 +164,11 @@ pub answer-refused : (bytes out : List ℕ) (rule : Rule) (r : Refusal) → rule
 unfolding ruleOf
 answer-refused bytes out rule r own e = let is = loaded-refused (readRule bytes) r (e ∙ ap (λ x. x .loaded) own) in rw is
 
--- A buffer of the most bytes that code has always suffices
+-- A buffer as long as the bound always suffices
 pub always-suffices : (bytes out : List ℕ) (is : Items) (f : Formula) → AllBytes bytes → readRule bytes ≡ accepted is f → mostCodeBytes ≤ length out → emittedOf (readRule bytes) out ≡ Emitted.Length (length (codeBytes f))
 always-suffices bytes out is f small read room =
     let short = code-bytes bytes is f (accepted-rule bytes is f small read) in
-    let test : tooShort out (codeBytes f) ≡ false = long-enough out (codeBytes f) (omega arith) in
-    rw read (ap (answer f) test)
+    rw read (has-room is f out (omega arith))
 
 -- A length that is answered is within the buffer
 

@@ -174,8 +174,8 @@ fn limits(random: &mut Random, out: &mut Rules) {
     }
 }
 
-/// A formula at all limits whose code has 199 instructions and 661 bytes; none
-/// has more of either. The timed items come first, as the others read more bits
+/// A formula at all limits whose code has 199 instructions and 661 bytes, more
+/// than any other of the list. The timed items come first, as the others read more bits
 /// for each instruction, and the numbers of bits take two bytes from 128 on.
 fn longest_formula() -> Formula {
     let w = Window { a: 16, b: 255 };
@@ -224,13 +224,7 @@ pub fn judge_cases(seed: u64) -> Vec<Case> {
     let mut out = Vec::new();
     every_small_clip(&mut out);
     one_frame_differs(&mut generator(seed, 501), &mut out);
-    let mut random = generator(seed, 502);
-    for _ in 0..12_000 {
-        let rule = judged_rule(&mut random);
-        let most = random.pick(&[4, 30, 30, 60]);
-        let frames = random.between(1, most);
-        out.push(judge_case(&mut random, rule, frames));
-    }
+    random_rules(&mut generator(seed, 502), &mut out);
     let mut random = generator(seed, 503);
     for _ in 0..1_500 {
         let rule = rule_of_long_windows(&mut random);
@@ -247,6 +241,16 @@ pub fn judge_cases(seed: u64) -> Vec<Case> {
     judge_refusals(&mut generator(seed, 505), &mut out);
     largest_clips(&mut generator(seed, 506), &mut out);
     out
+}
+
+/// Random rules with random clips of up to 60 frames.
+fn random_rules(random: &mut Random, out: &mut Vec<Case>) {
+    for _ in 0..12_000 {
+        let rule = judged_rule(random);
+        let most = random.pick(&[4, 30, 30, 60]);
+        let frames = random.between(1, most);
+        out.push(judge_case(random, rule, frames));
+    }
 }
 
 /// A random rule with few or many items, small or large windows, and few or
@@ -393,7 +397,7 @@ mod tests {
     use super::*;
     use crate::case::answer;
     use crate::code::Instruction;
-    use crate::meaning::verdicts;
+    use crate::meaning::{holds, judge, verdicts};
 
     /// The refusal's number, or 0 if there is none.
     fn number(case: &Case) -> usize {
@@ -608,5 +612,43 @@ mod tests {
             agreed += 1;
         }
         assert!(agreed > 25_000);
+    }
+
+    /// How many questions `holds` asks at most about one of so many frames.
+    fn questions(f: &Formula, frames: usize) -> u64 {
+        let mut asked: Vec<u64> = f.operands().iter().map(|f| questions(f, frames)).collect();
+        if let Some(w) = f.window() {
+            let places = (w.b.min(frames - 1) + 1).saturating_sub(w.a) as u64;
+            let right = asked.pop().unwrap_or(0).saturating_mul(places);
+            let left = asked.pop().unwrap_or(0).saturating_mul(places * places);
+            return 1 + right.saturating_add(left).min(u64::MAX / 2);
+        }
+        asked.into_iter().fold(1, u64::saturating_add)
+    }
+
+    /// `judge` keeps its operands' answers; where it is not too long, `holds` is
+    /// asked about each frame by itself, and says the same.
+    #[test]
+    fn ten_thousand_random_rules_are_judged_frame_by_frame() {
+        let mut cases = Vec::new();
+        random_rules(&mut generator(1, 502), &mut cases);
+        let mut compared = 0;
+        for case in &cases {
+            let Case::Judge { rule, clip, buffer } = case else {
+                continue;
+            };
+            let f = load(rule).expect("a good rule").formula;
+            let all = questions(&f, clip.len()).saturating_mul(clip.len() as u64);
+            if buffer.len() < clip.len() || all > 1_000_000 {
+                continue;
+            }
+            let mut written = buffer.clone();
+            assert_eq!(judge(rule, clip, &mut written), Ok(()));
+            for (i, &verdict) in written[..clip.len()].iter().enumerate() {
+                assert_eq!(verdict, u8::from(holds(&f, clip, i)), "{f:?}, frame {i}");
+            }
+            compared += 1;
+        }
+        assert!(compared >= 10_000, "{compared} rules");
     }
 }
