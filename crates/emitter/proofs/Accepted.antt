@@ -141,5 +141,8 @@ good-code bytes is f r =
     let fit = formula-fit [] f tt (rw (r .own-items) at (r .ranges)) in
     all-fine [] (codeFor f) good-none (record { fit = fit; instructions = omega arith; reaches = omega arith; distance = omega arith })
 
+pub code-some : (bytes : List ℕ) (is : Items) (f : Formula) → IsRule bytes is f → 1 ≤ length (codeFor f)
+code-some bytes is f r = let s = size bytes is f r in omega arith
+
 pub code-accepted : (bytes : List ℕ) (is : Items) (f : Formula) → IsRule bytes is f → readCode (codeBytes f) ≡ items (codeFor f)
-code-accepted bytes is f r = let s = size bytes is f r in code-read (codeFor f) (omega arith) (good-code bytes is f r)
+code-accepted bytes is f r = code-read (codeFor f) (code-some bytes is f r) (good-code bytes is f r)

@@ -17,7 +17,7 @@ pub enum Number {
 const GROUP: u16 = 128;
 
 // A byte as a number.
-fn wide(byte: u8) -> u16
+pub fn wide(byte: u8) -> u16
     ensures { λ r. ⌜ (r ≡ byte) × (r < 256) ⌝ }
 {
     byte as u16

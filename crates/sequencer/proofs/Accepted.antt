@@ -50,22 +50,24 @@ loaded-items : (read : Walked Instruction) (n : ℕ) → Loaded.Accepted n ≡ l
 loaded-items (items code) n e = (code, refl, cc)
 loaded-items (refused r) n e = absurd (let z : _≡_ {A = ℕ} 0 1 = cc in omega arith)
 
+pub ready-code : (bytes : List ℕ) (p : Program) (n : ℕ) (code : Code) → readCode bytes ≡ items code → Good code → 1 ≤ length code → p ≡ programOf (readCode bytes) → n ≡ length code → Ready bytes (p .numbers) n
+unfolding programOf
+ready-code bytes p n code is good some own many =
+    let array = ap (λ q. q .numbers) own ∙ ap (λ read. padded (4 * limits .instructions) (flat (codeOf read))) is in
+    let back : codeIn (p .numbers) n ≡ code = rw (array, many) (code-back (4 * limits .instructions) code) in
+    record {
+      code = code;
+      is = is;
+      own = back;
+      sound = record { some = omega arith; inside = rw (array, many) (omega (arith, padded-length (4 * limits .instructions) (flat code), flat-length code)); good = rw back good };
+    }
+
 pub ready : (bytes : List ℕ) (p : Program) (n : ℕ) → AllBytes bytes → p ≡ programOf (readCode bytes) → Loaded.Accepted n ≡ p .loaded → Ready bytes (p .numbers) n
 unfolding programOf
 ready bytes p n small own e =
     let (code, is, many) = loaded-items (readCode bytes) n (e ∙ ap (λ q. q .loaded) own) in
-    from code is many (ap (λ q. q .numbers) own ∙ ap (λ read. padded (4 * limits .instructions) (flat (codeOf read))) is)
-  where
-    from : (code : Code) → readCode bytes ≡ items code → n ≡ length code → p .numbers ≡ padded (4 * limits .instructions) (flat code) → Ready bytes (p .numbers) n
-    from code is many array =
-        let (good, own-bytes, some) = accepted-code bytes code small is in
-        let back : codeIn (p .numbers) n ≡ code = rw (array, many) (code-back (4 * limits .instructions) code) in
-        record {
-          code = code;
-          is = is;
-          own = back;
-          sound = record { some = omega arith; inside = rw (array, many) (omega (arith, padded-length (4 * limits .instructions) (flat code), flat-length code)); good = rw back good };
-        }
+    let (good, own-bytes, some) = accepted-code bytes code small is in
+    ready-code bytes p n code is good some own many
 
 -- A refused one
 loaded-refused : (read : Walked Instruction) (r : _) → Loaded.Refused r ≡ loadedOf read → read ≡ refused r

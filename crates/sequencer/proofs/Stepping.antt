@@ -9,18 +9,25 @@ use Rattle.reading.specs.Limits.{limits}
 use Rattle.reading.specs.declared.refusal.Refusal.{Refusal}
 use Rattle.sequencer.specs.Loading.{readCode}
 use Rattle.sequencer.specs.Registers.{start, executed}
-use Rattle.sequencer.specs.Stepping.{steppedOf}
+use Rattle.sequencer.specs.Stepping.{advancedBy, steppedOf}
+use Rattle.sequencer.specs.declared.registers.Advanced.{Advanced}
 use Rattle.sequencer.specs.declared.registers.Output.{Output}
 use Rattle.sequencer.specs.declared.registers.Registers.{Registers}
-use Rattle.sequencer.specs.Programs.{codeIn, Fits, Leaves}
+use Rattle.sequencer.specs.Programs.{codeIn, Sound, Fits, Leaves}
 use Rattle.sequencer.proofs.Accepted.{Ready}
 
-module _ (bytes numbers : List ℕ) (n : ℕ) (r : Registers) (bits : List Bool) (a : Ready bytes numbers n) where
-  pub ready-fits : limits .counters ≤ length (r .counters) → limits .delays ≤ length (r .delays) → limits .instructions ≤ length bits → Fits numbers n r bits
-  ready-fits c d b = record { sound = a .sound; counters = c; delays = d; room = b }
+-- A frame through sound numbers is a step of the code that they stand for
+module _ (numbers : List ℕ) (n : ℕ) (r : Registers) (bits : List Bool) where
+  pub sound-fits : Sound numbers n → limits .counters ≤ length (r .counters) → limits .delays ≤ length (r .delays) → limits .instructions ≤ length bits → Fits numbers n r bits
+  sound-fits s c d b = record { sound = s; counters = c; delays = d; room = b }
 
-  pub stepped-ready : (frame : ℕ) {counters : List ℕ} {delays bits′ : List Bool} {b : Bool} → Leaves (codeIn numbers n) (executed frame (codeIn numbers n) (start r)) bits counters delays bits′ b → record { output = Output.Bit b; registers = record { counters = counters; delays = delays } } ≡ steppedOf (readCode bytes) frame r
-  stepped-ready frame l = rw (a .is, ← a .own, l .own-counters, l .own-delays, l .own-output)
+  pub advanced : (frame : ℕ) {counters : List ℕ} {delays bits′ : List Bool} {b : Bool} → Leaves (codeIn numbers n) (executed frame (codeIn numbers n) (start r)) bits counters delays bits′ b → record { bit = b; registers = record { counters = counters; delays = delays } } ≡ advancedBy (codeIn numbers n) frame r
+  unfolding advancedBy
+  advanced frame l = rw (l .own-counters, l .own-delays, l .own-output)
+
+-- Code that is ready hands back what its code does
+pub stepped-ready : (bytes numbers : List ℕ) (n : ℕ) → Ready bytes numbers n → (frame : ℕ) (r : Registers) (a : Advanced) → a ≡ advancedBy (codeIn numbers n) frame r → record { output = Output.Bit (a .bit); registers = a .registers } ≡ steppedOf (readCode bytes) frame r
+stepped-ready bytes numbers n ready frame r a own = rw (ready .is, ← ready .own, own)
 
 pub stepped-refused : (bytes : List ℕ) (frame : ℕ) (r : Registers) (refusal : Refusal) → readCode bytes ≡ refused refusal → record { output = Output.Refused refusal; registers = r } ≡ steppedOf (readCode bytes) frame r
 stepped-refused bytes frame r refusal e = rw e

@@ -2,17 +2,18 @@
 -- instructions before it, and behind the bits written stands what stood there. Each instruction leads on by what `execute` makes of it.
 use mathlib.Core.Path.{_≡_, refl, ap, _∙_}
 use mathlib.Core.Bool.{Bool, true, false, not, _&&_}
-use mathlib.Core.List.{List, [], _∷_, _++_, append-assoc}
+use mathlib.Core.List.{List, [], _∷_, _++_}
 use Prim.Native.Nat.{ℕ, suc, _+_, _-_, _*_, _≤_, _<_}
 use native.Mathlib.Numerals.{add-one}
 use native.Mathlib.Omega.{arith}
 use borrow.Author.Tests.{ne-eqb}
 use lib.Dec.{eqb}
-use lib.ListN.{length, getD, drop, set, length-append, length-set, length-take, length-drop, List·getD-append}
-use lib.Seq.{drop-cons, set-at, getD-set-other}
+use lib.ListN.{length, getD, set, length-append, length-set, length-take, length-drop, List·getD-append}
+use lib.Seq.{getD-set-other}
 use Rattle.reading.specs.Buffers.{over}
 use Rattle.reading.specs.Frames.{hasFlag}
 use Rattle.reading.specs.Limits.{limits}
+use Rattle.reading.proofs.Buffers.{over-length, over-more}
 use Rattle.sequencer.specs.Bits.{Counter, none, count, next, isOn}
 use Rattle.sequencer.specs.Code.{Instruction, One, Flag, Nand, Reach, Later, Code}
 use Rattle.sequencer.specs.Loading.{reachOf, distanceOf, reachesIn, distanceIn}
@@ -46,17 +47,6 @@ module _ (numbers : List ℕ) (n : ℕ) where
   pub at-later : (getD numbers (4 * n) 0 ≡ 0x01 → ⊥) → (getD numbers (4 * n) 0 ≡ 0x02 → ⊥) → (getD numbers (4 * n) 0 ≡ 0x03 → ⊥) → (getD numbers (4 * n) 0 ≡ 0x04 → ⊥) → instructionAt numbers n ≡ Later (getD numbers (4 * n + 1) 0) (getD numbers (4 * n + 2) 0)
   unfolding instructionAt
   at-later a b c d = is-later _ _ _ _ a b c d
-
--- One element more, in front of what stays
-
-over-length : {A : Type 0} (own all : List A) → length own ≤ length all → length (over own all) ≡ length all
-over-length own all h = simp (length-append, length-drop) (omega arith)
-
-over-more : {A : Type 0} (own all : List A) (n : ℕ) (v : A) → length own ≡ n → n < length all → set (over own all) n v ≡ over (own ++ v ∷ []) all
-over-more own all n v e h =
-    let d : drop (length own) all ≡ getD all (length own) v ∷ drop (suc (length own)) all = drop-cons all (length own) v (omega arith) in
-    let l : length (own ++ v ∷ []) ≡ suc (length own) = simp length-append (add-one (length own)) in
-    rw (d, set-at own _ _ v n e, l, append-assoc)
 
 -- One instruction more
 

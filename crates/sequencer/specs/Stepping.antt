@@ -4,15 +4,24 @@ use Prim.Native.Nat.{ℕ}
 use Rattle.reading.specs.InTurn.{Walked, items, refused}
 use Rattle.sequencer.specs.Code.{Instruction, Code}
 use Rattle.sequencer.specs.Registers.{Working, start, executed, registersOf, outputOf}
+use Rattle.sequencer.specs.declared.registers.Advanced.{Advanced}
 use Rattle.sequencer.specs.declared.registers.Output.{Output}
 use Rattle.sequencer.specs.declared.registers.Registers.{Registers}
 use Rattle.sequencer.specs.declared.registers.Stepped.{Stepped}
 
+-- What a frame through code hands back, from where its instructions leave it
+abbrev pub advancedFrom : Code → Working → Advanced
+advancedFrom code s = record { bit = outputOf code s; registers = registersOf s }
+
+-- What a frame through code hands back
+unfoldable pub advancedBy : Code → ℕ → Registers → Advanced
+advancedBy code frame r = advancedFrom code (executed frame code (start r))
+
 -- What a step by accepted code hands back
-abbrev pub steppedBy : Code → Working → Stepped
-steppedBy code s = record { output = Output.Bit (outputOf code s); registers = registersOf s }
+abbrev pub steppedBy : Advanced → Stepped
+steppedBy a = record { output = Output.Bit (a .bit); registers = a .registers }
 
 -- What a step hands back
 abbrev pub steppedOf : Walked Instruction → ℕ → Registers → Stepped
-steppedOf (items code) frame r = steppedBy code (executed frame code (start r))
+steppedOf (items code) frame r = steppedBy (advancedBy code frame r)
 steppedOf (refused refusal) frame r = record { output = Output.Refused refusal; registers = r }

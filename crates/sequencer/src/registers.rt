@@ -8,8 +8,8 @@ ghost use Rattle.reading.specs.Limits.{limits};
 ghost use Rattle.sequencer.specs.Bits.{next};
 ghost use Rattle.sequencer.specs.Loading.{readCode};
 ghost use Rattle.sequencer.specs.Registers.{counterOf, kept, freshRegisters, start, executed, shifted};
-ghost use Rattle.sequencer.specs.Stepping.{steppedOf};
-ghost use Rattle.sequencer.specs.Programs.{codeIn, Fits, Leaves};
+ghost use Rattle.sequencer.specs.Stepping.{advancedBy, steppedOf};
+ghost use Rattle.sequencer.specs.Programs.{codeIn, Sound, Fits, Leaves};
 use crate::load::Loaded;
 use crate::load::decode;
 use reading::limits::COUNTERS;
@@ -30,6 +30,12 @@ pub struct Registers {
 pub enum Output {
     Bit(bool),
     Refused(Refusal),
+}
+
+// What a frame through loaded code hands back: the output bit and the new registers.
+pub struct Advanced {
+    pub bit: bool,
+    pub registers: Registers,
 }
 
 // What a step hands back: its answer and the registers, unchanged if the code is refused.
@@ -156,9 +162,26 @@ impl Registers {
         }
     }
 
+    // Takes one frame through code that is loaded, and hands the new registers back with the output bit.
+    pub fn advance(mut self, numbers: &[u16], count: usize, frame: u8) -> Advanced
+        requires { ⌜ Sound (now numbers) count ⌝ }
+        ensures { λ r. ⌜ r ≡ advancedBy (codeIn (now (numbers .entry)) count) frame self ⌝ }
+    {
+        let mut counters = self.counters;
+        let mut delays = self.delays;
+        let mut bits = [false; MOST_INSTRUCTIONS];
+        let bit = frame_through(numbers, count, frame, &mut counters, &mut delays, &mut bits);
+        self.counters = counters;
+        self.delays = delays;
+        Advanced {
+            bit,
+            registers: self,
+        }
+    }
+
     // Takes one frame through code and hands the new registers back with the output bit. Code that is refused leaves the registers as they
     // are.
-    pub fn step(mut self, code: &[u8], frame: u8) -> Stepped
+    pub fn step(self, code: &[u8], frame: u8) -> Stepped
         ensures { λ r. ⌜ r ≡ steppedOf (readCode (now (code .entry))) frame self ⌝ }
     {
         let program = decode(code);
@@ -166,22 +189,11 @@ impl Registers {
         match loaded {
             Loaded::Accepted(count) => {
                 let numbers = program.numbers;
-                let mut counters = self.counters;
-                let mut delays = self.delays;
-                let mut bits = [false; MOST_INSTRUCTIONS];
-                let bit = frame_through(
-                    &numbers,
-                    count,
-                    frame,
-                    &mut counters,
-                    &mut delays,
-                    &mut bits,
-                );
-                self.counters = counters;
-                self.delays = delays;
+                let advanced = self.advance(&numbers, count, frame);
+                let registers = advanced.registers;
                 Stepped {
-                    output: Output::Bit(bit),
-                    registers: self,
+                    output: Output::Bit(advanced.bit),
+                    registers,
                 }
             }
             Loaded::Refused(refusal) => Stepped {

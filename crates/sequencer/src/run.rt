@@ -30,7 +30,7 @@ fn bad_clip(frames: usize) -> bool
 }
 
 // A bit as a byte.
-fn byte_of(bit: bool) -> u8
+pub fn byte_of(bit: bool) -> u8
     ensures { λ r. ⌜ r ≡ byteOf bit ⌝ }
 {
     if bit {

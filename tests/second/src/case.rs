@@ -134,7 +134,7 @@ pub fn read_case(input: &mut impl Read) -> io::Result<Option<Case>> {
 }
 
 /// The bytes of a text: hex bytes, each with `*` and a count if there are more.
-fn bytes_of_words(text: &str) -> Result<Vec<u8>, String> {
+pub fn bytes_of_words(text: &str) -> Result<Vec<u8>, String> {
     let mut bytes = Vec::new();
     for word in text.split_whitespace() {
         let (byte, count) = word.split_once('*').unwrap_or((word, "1"));
@@ -148,7 +148,7 @@ fn bytes_of_words(text: &str) -> Result<Vec<u8>, String> {
 }
 
 /// Bytes as such a text. Five or more that are the same stand as one word.
-fn words_of_bytes(bytes: &[u8]) -> String {
+pub fn words_of_bytes(bytes: &[u8]) -> String {
     let mut words = Vec::new();
     for same in bytes.chunk_by(|first, second| first == second) {
         let word = format!("{:02x}", same[0]);
@@ -286,7 +286,7 @@ fn words_of_refusal(refusal: Refusal) -> String {
 
 /// What was done, or the refusal, and every byte of the buffer after it, two hex
 /// digits each.
-fn words_of_buffer(done: Result<String, Refusal>, buffer: &[u8]) -> String {
+pub fn words_of_buffer(done: Result<String, Refusal>, buffer: &[u8]) -> String {
     let done = done.unwrap_or_else(words_of_refusal);
     let digits: String = buffer.iter().map(|byte| format!("{byte:02x}")).collect();
     format!("{done} [{digits}]")

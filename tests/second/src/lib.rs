@@ -1,5 +1,5 @@
-//! An independent reference for rules, the emitter and the sequencer, written
-//! straight from document 01.
+//! An independent reference for rules, the emitter, the sequencer and the search,
+//! written straight from document 01.
 //!
 //! Each module does one job in the plainest way. Nothing here is shared with
 //! the proved library: no code and no tables.
@@ -19,18 +19,25 @@
 //!   and its answer.
 //! - `sequencer_cases`, `emitter_cases`: the lists of cases that both programs
 //!   answer.
+//! - `search`: the search for the first clip that meets a rule.
+//! - `every_clip`: the same for tiny rules, by trying every clip.
+//! - `search_case`, `search_cases`: a case for the search, and the list of them.
 
 pub mod case;
 pub mod cases;
 pub mod code;
 pub mod emit;
 pub mod emitter_cases;
+pub mod every_clip;
 pub mod machine;
 pub mod meaning;
 pub mod number;
 pub mod random;
 pub mod random_code;
 pub mod rule;
+pub mod search;
+pub mod search_case;
+pub mod search_cases;
 pub mod sequencer_cases;
 pub mod stream;
 pub mod write;

@@ -4,6 +4,7 @@
 
 use crate::code::{load, Instruction};
 use crate::rule::Refusal;
+use std::hash::{Hash, Hasher};
 
 /// So many counters.
 pub const COUNTERS: usize = 16;
@@ -17,6 +18,19 @@ pub const MOST_FRAMES: usize = 65_535;
 pub struct Registers {
     pub counters: [Option<u32>; COUNTERS],
     pub delays: [bool; DELAYS],
+}
+
+/// Delay bits are hashed by words of 64 bits, as one by one they take long.
+impl Hash for Registers {
+    fn hash<H: Hasher>(&self, hasher: &mut H) {
+        self.counters.hash(hasher);
+        for bits in self.delays.chunks(64) {
+            let word = bits
+                .iter()
+                .fold(0u64, |word, &bit| word << 1 | u64::from(bit));
+            word.hash(hasher);
+        }
+    }
 }
 
 /// The counter that a number stands for: 0 is "none", any other number one more
@@ -60,7 +74,7 @@ impl Registers {
 
     /// Takes one frame through accepted code and gives the output bit.
     pub fn take(&mut self, code: &[Instruction], frame: u8) -> bool {
-        let mut bits: Vec<bool> = Vec::new();
+        let mut bits: Vec<bool> = Vec::with_capacity(code.len());
         // What no instruction has taken yet, in order.
         let mut counters = self.counters.iter_mut();
         let mut delays = self.delays.iter_mut();

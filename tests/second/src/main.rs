@@ -1,10 +1,13 @@
 //! The program: writes the lists of cases, answers a stream of them, packs and
 //! unpacks text.
 
-use second::case::{self, Case};
-use second::{cases, emitter_cases, rule, sequencer_cases, stream};
-use std::io::{self, BufRead, BufWriter, Write};
+use second::{case, search_case};
+use second::{cases, emitter_cases, rule, search_cases, sequencer_cases, stream};
+use std::io::{self, BufRead, BufWriter, StdinLock, StdoutLock, Write};
 use std::process::ExitCode;
+
+type Input = StdinLock<'static>;
+type Output = BufWriter<StdoutLock<'static>>;
 
 const USE: &str = "use:
   second cases SEED   write the stream of rules for a seed
@@ -16,7 +19,9 @@ for the sequencer and the emitter:
                       write the stream of cases for a seed
   second answer       read a stream of cases, write one line for each
   second pack-cases   read cases as lines of text, write the stream
-  second unpack-cases read a stream of cases, write them as lines of text";
+  second unpack-cases read a stream of cases, write them as lines of text
+for the search, in the same way:
+  second search-cases SEED, answer-searches, pack-searches, unpack-searches";
 
 fn main() -> ExitCode {
     let arguments: Vec<String> = std::env::args().skip(1).collect();
@@ -25,14 +30,20 @@ fn main() -> ExitCode {
         ["cases", seed] => write_cases(seed),
         ["load"] => load_stream(),
         ["pack"] => pack_lines(),
-        ["load-cases", seed] => write_list(seed, sequencer_cases::load_cases),
-        ["step-cases", seed] => write_list(seed, sequencer_cases::step_cases),
-        ["run-cases", seed] => write_list(seed, sequencer_cases::run_cases),
-        ["emit-cases", seed] => write_list(seed, emitter_cases::emit_cases),
-        ["judge-cases", seed] => write_list(seed, emitter_cases::judge_cases),
-        ["answer"] => write_lines(case::answer),
-        ["pack-cases"] => pack_cases(),
-        ["unpack-cases"] => write_lines(case::line_of_case),
+        ["load-cases", seed] => write_list(seed, sequencer_cases::load_cases, case::write_case),
+        ["step-cases", seed] => write_list(seed, sequencer_cases::step_cases, case::write_case),
+        ["run-cases", seed] => write_list(seed, sequencer_cases::run_cases, case::write_case),
+        ["emit-cases", seed] => write_list(seed, emitter_cases::emit_cases, case::write_case),
+        ["judge-cases", seed] => write_list(seed, emitter_cases::judge_cases, case::write_case),
+        ["answer"] => write_lines(case::read_case, case::answer),
+        ["pack-cases"] => pack_cases(case::case_of_line, case::write_case),
+        ["unpack-cases"] => write_lines(case::read_case, case::line_of_case),
+        ["search-cases", seed] => {
+            write_list(seed, search_cases::search_cases, search_case::write_case)
+        }
+        ["answer-searches"] => write_lines(search_case::read_case, search_case::answer),
+        ["pack-searches"] => pack_cases(search_case::case_of_line, search_case::write_case),
+        ["unpack-searches"] => write_lines(search_case::read_case, search_case::line_of_case),
         _ => Err(USE.to_string()),
     };
     match result {
@@ -89,33 +100,43 @@ fn pack_lines() -> Result<(), String> {
     out.flush().map_err(said)
 }
 
-/// Writes the cases of a list for the sequencer or the emitter.
-fn write_list(seed: &str, list: fn(u64) -> Vec<Case>) -> Result<(), String> {
+/// Writes the cases of a list, each by a function of its kind.
+fn write_list<Case>(
+    seed: &str,
+    list: fn(u64) -> Vec<Case>,
+    write: fn(&mut Output, &Case) -> io::Result<()>,
+) -> Result<(), String> {
     let mut out = BufWriter::new(io::stdout().lock());
     for case in list(seed_of(seed)?) {
-        case::write_case(&mut out, &case).map_err(said)?;
+        write(&mut out, &case).map_err(said)?;
     }
     out.flush().map_err(said)
 }
 
-/// Writes a line for each case of such a stream.
-fn write_lines(line: fn(&Case) -> String) -> Result<(), String> {
+/// Writes a line for each case of a stream.
+fn write_lines<Case>(
+    read: fn(&mut Input) -> io::Result<Option<Case>>,
+    line: fn(&Case) -> String,
+) -> Result<(), String> {
     let mut input = io::stdin().lock();
     let mut out = BufWriter::new(io::stdout().lock());
-    while let Some(case) = case::read_case(&mut input).map_err(said)? {
+    while let Some(case) = read(&mut input).map_err(said)? {
         writeln!(out, "{}", line(&case)).map_err(said)?;
     }
     out.flush().map_err(said)
 }
 
-/// Turns lines of text into a stream of such cases.
-fn pack_cases() -> Result<(), String> {
+/// Turns lines of text into a stream of cases.
+fn pack_cases<Case>(
+    case_of_line: fn(&str) -> Result<Option<Case>, String>,
+    write: fn(&mut Output, &Case) -> io::Result<()>,
+) -> Result<(), String> {
     let mut out = BufWriter::new(io::stdout().lock());
     for (k, line) in io::stdin().lock().lines().enumerate() {
-        let case = case::case_of_line(&line.map_err(said)?)
+        let case = case_of_line(&line.map_err(said)?)
             .map_err(|words| format!("second: line {}: {words}", k + 1))?;
         if let Some(case) = case {
-            case::write_case(&mut out, &case).map_err(said)?;
+            write(&mut out, &case).map_err(said)?;
         }
     }
     out.flush().map_err(said)

@@ -171,6 +171,37 @@ pub fn good_formula(random: &mut Random) -> Formula {
     formula(random, items, &mut Budget::of_a_rule())
 }
 
+/// A random formula to search a clip for, within the budget, of about so many
+/// items, at most twice as many and two: any; one that no clip satisfies, so that
+/// all its states are reached; or one that wants several frames.
+pub fn searched_formula(random: &mut Random, items: usize, budget: &mut Budget) -> Formula {
+    let (l, r) = match random.below(8) {
+        0..=2 => return formula(random, items, budget),
+        3 => (formula(random, items, budget), Formula::False),
+        4 => {
+            budget.timed /= 2;
+            budget.lower /= 2;
+            let f = formula(random, items, budget);
+            (f.clone(), Formula::Not(Box::new(f)))
+        }
+        _ if budget.timed == 0 => return formula(random, items, budget),
+        _ => {
+            let k = random.between(0, budget.lower.min(budget.bound));
+            budget.timed -= 1;
+            budget.lower -= k;
+            // Over a flag there are more states, as it may be in each frame or not.
+            let frame = match random.below(3) {
+                0 => Formula::True,
+                _ => leaf(random, budget.flag),
+            };
+            let later = Formula::Eventually(Window { a: k, b: k }, Box::new(frame));
+            (later, formula(random, items, budget))
+        }
+    };
+    let (l, r) = if random.once_in(2) { (l, r) } else { (r, l) };
+    Formula::And(Box::new(l), Box::new(r))
+}
+
 /// A random good rule.
 pub fn good_rule(random: &mut Random) -> Vec<u8> {
     write(&good_formula(random))
@@ -360,6 +391,17 @@ mod tests {
             lower = lower.max(formula.lower());
         }
         assert_eq!((items, timed, lower), (MOST_ITEMS, MOST_TIMED, MOST_LOWER));
+    }
+
+    #[test]
+    fn formulas_to_search_are_within_the_limits() {
+        let mut random = Random::new(8);
+        for k in 0..20_000 {
+            let items = 1 + k % 31;
+            let formula = searched_formula(&mut random, items, &mut Budget::of_a_rule());
+            assert_eq!(number(&write(&formula)), 0);
+            assert!(formula.items() <= 2 * items + 2);
+        }
     }
 
     #[test]

@@ -1,11 +1,9 @@
 -- `Registers::step` meets its contract: a program that is loaded is ready, and a frame through it is a step of its code.
-use lib.ListN.{length}
 use Rattle.reading.specs.Buffers.{AllBytes}
-use Rattle.reading.specs.Limits.{limits}
 use native.Mathlib.Omega.{arith}
-use mathlib.Core.Path.{_≡_, sym}
+use mathlib.Core.Path.{sym}
 use Rattle.sequencer.proofs.Accepted.{Ready, ready, not-ready}
-use Rattle.sequencer.proofs.Stepping.{ready-fits, stepped-ready, stepped-refused}
+use Rattle.sequencer.proofs.Stepping.{stepped-ready, stepped-refused}
 use borrow.Author.Needs.{needs}
 use Rattle.sequencer.proofs.registers.Registers.step.Statement.{statement}
 use Rattle.sequencer.proofs.registers.Registers.step.Tie as tie
@@ -22,29 +20,17 @@ is-ready c =
     let small : AllBytes (c .before .before .before .before .args .code .now) = λ i. omega (arith, c .before .before .before .shared-slice-known .given i) in
     ready _ _ _ small (c .before .before .decode .ensures) (sym (c .loaded .given .1))
 
-slice-aggregate-frame-through : tie.Need-slice-aggregate-frame-through
-slice-aggregate-frame-through c = search needs
+slice-aggregate-advance : tie.Need-slice-aggregate-advance
+slice-aggregate-advance c = search needs
 
-slice-aggregate-frame-through-2 : tie.Need-slice-aggregate-frame-through-2
-slice-aggregate-frame-through-2 c = search needs
-
-slice-aggregate-frame-through-3 : tie.Need-slice-aggregate-frame-through-3
-slice-aggregate-frame-through-3 c = search needs
-
-slice-aggregate-frame-through-4 : tie.Need-slice-aggregate-frame-through-4
-slice-aggregate-frame-through-4 c = search needs
-
-frame-through-requires : tie.Need-frame-through-requires
-frame-through-requires c κs = let self = c .before .before .before .before .before .before .before .before .before .before .before .before .args .self in
-    let counters : length (self .counters) ≡ limits .counters = search needs in
-    let delays : length (self .delays) ≡ limits .delays = search needs in
-    ready-fits _ _ _ _ _ (is-ready (c .before .before .before .before .before .before .before .before)) (omega arith) (omega arith) (omega arith)
+advance-requires : tie.Need-advance-requires
+advance-requires c κs = is-ready (c .before .before .before) .sound
 
 enum-known-loaded-2 : tie.Need-enum-known-loaded-2
 enum-known-loaded-2 c = search needs
 
 returns : tie.Need-returns
-returns c = stepped-ready _ _ _ _ _ (is-ready (c .before .before .before .before .before .before .before .before .before .before .before .before)) _ (c .before .before .before .frame-through .ensures)
+returns c = stepped-ready _ _ _ (is-ready (c .before .before .before .before .before)) _ _ _ (c .before .advance .ensures)
 
 returns-2 : tie.Need-returns-2
 returns-2 c = stepped-refused _ _ _ _ (not-ready _ _ _ (c .before .before .before .decode .ensures) (sym (c .before .loaded2 .given .1)))
@@ -55,11 +41,8 @@ step-spec =
     (tie.spec
     decode-requires
     enum-known-loaded
-    slice-aggregate-frame-through
-    slice-aggregate-frame-through-2
-    slice-aggregate-frame-through-3
-    slice-aggregate-frame-through-4
-    frame-through-requires
+    slice-aggregate-advance
+    advance-requires
     enum-known-loaded-2
     returns
     returns-2)

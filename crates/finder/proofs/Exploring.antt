@@ -1,0 +1,221 @@
+-- Exploring in the table. Registers and output go by steps, so the turns and ends of the search hold of the records: a state that is looked up is known or new by its registers, and
+-- storing a new one leaves those before it, and what they show, as they were.
+use mathlib.Core.Path.{_≡_, refl, sym, ap, subst, _∙_}
+use mathlib.Core.Bool.{true, false}
+use mathlib.Core.List.{List, [], _∷_, _++_}
+use Prim.Native.Nat.{ℕ, zero, suc, _+_, _*_, _≤_, _<_}
+use native.Mathlib.Omega.{arith}
+use lib.ListN.{length}
+use Rattle.reading.specs.Frames.{Clip}
+use Rattle.reading.specs.Limits.{limits}
+use Rattle.sequencer.specs.After.{stepsOver}
+use Rattle.sequencer.specs.Bits.{output}
+use Rattle.sequencer.specs.Code.{Code}
+use Rattle.sequencer.specs.Good.{Good}
+use Rattle.sequencer.specs.Registers.{freshRegisters, start, executed, outputOf}
+use Rattle.sequencer.specs.Stepping.{advancedBy}
+use Rattle.sequencer.specs.declared.registers.Registers.{Registers}
+use Rattle.sequencer.proofs.After.{after-clip, after-output}
+use Rattle.sequencer.proofs.Counting.{good-lines}
+use Rattle.paths.specs.Answers.{none, noRoom, Right}
+use Rattle.paths.specs.Searching.{Stepwise, clipAt, frameBytes}
+use Rattle.paths.proofs.Clips.{length-more, at-more}
+use Rattle.paths.proofs.Turns.{begins, known-turn, new-turn, full-turn, next-state, next-length}
+use Rattle.paths.proofs.Ends.{ends-met, ends-none, ends-full}
+use Rattle.finder.proofs.Records.{keeps-one}
+use Rattle.finder.specs.Exploring.{Hits, Holds, Exploring, Met, Misses, Keeping}
+use Rattle.finder.specs.Records.{Keeps, recordAt}
+use Rattle.finder.specs.Tables.{Looks, Stores, Shows}
+use Rattle.finder.specs.declared.explore.Kept.{Kept}
+use Rattle.finder.specs.declared.table.Look.{Look}
+
+-- The output of a step is that of the clip with the frame in front
+output-step : (code : Code) → Good code → (x : ℕ) (c : Clip) → outputOf code (executed x code (start (stepsOver code c))) ≡ output code (x ∷ c)
+output-step code good x c = rw (after-clip code good c) (after-output code (good-lines code good) x c)
+
+-- Registers and output go by steps
+pub stepwise : (code : Code) → Good code → Stepwise (stepsOver code) (Hits code)
+unfolding stepsOver
+stepwise code good =
+    record {
+      leads = λ x c d e. rw e;
+      meets = λ x c d e h. sym (output-step code good x d) ∙ rw (← e) (output-step code good x c) ∙ h;
+    }
+
+-- What records show stays if they and those before them stay
+shows-kept : (before after : List ℕ) (n : ℕ) (c : Clip) → ((m : ℕ) → m ≤ n → recordAt after m ≡ recordAt before m) → Shows before n c → Shows after n c
+unfolding Shows
+shows-kept before after n [] same h = rw (same n (omega arith)) h
+shows-kept before after n (x ∷ c) same h =
+    let (frame, m, link, less, rest) = h in
+    (rw (same n (omega arith)) frame, m, rw (same n (omega arith)) link, less, shows-kept before after m c (λ i l. same i (omega arith)) rest)
+
+-- A trial that does not satisfy
+module _ {code : Code} {room : ℕ} {table : List ℕ} {k b ended : ℕ} {kept : Kept} {r : Registers} (m : Misses code room table k b ended kept r) where
+  abbrev e : Exploring code room table k b ended kept
+  e = m .exploring
+
+  -- its state is stored
+  inside : k < length (e .clips)
+  inside = omega (arith, m .more, e .searching .begun)
+
+  abbrev tried : Clip
+  tried = b ∷ clipAt (e .clips) k
+
+  -- it leads to these registers
+  led : r ≡ stepsOver code tried
+  unfolding stepsOver advancedBy
+  led = ap (λ a. a .registers) (m .missed _ (e .keeps k inside))
+
+  missed : Hits code tried → ⊥
+  unfolding advancedBy
+  missed hit =
+      let no : false ≡ output code tried = ap (λ a. a .bit) (m .missed _ (e .keeps k inside)) ∙ output-step code (m .good) b (clipAt (e .clips) k) in
+      let z : _≡_ {A = ℕ} 0 1 = cc in
+      omega arith
+
+  -- its registers are kept by a record
+  known : (n : ℕ) → n < kept .stored → Keeps (recordAt table n) r → Exploring code room table k (b + 1) ended kept
+  known n h keeps =
+      let there : n < length (e .clips) = omega (arith, e .number) in
+      record {
+        clips = e .clips;
+        frames = e .frames;
+        number = e .number;
+        holds = e .holds;
+        keeps = e .keeps;
+        shows = e .shows;
+        searching = known-turn _ _ _ _ _ _ _ _ _ (e .searching) (m .more) (m .byte) missed n there (keeps-one _ _ _ (e .keeps n there) keeps ∙ led);
+      }
+
+  module _ (nowhere : (n : ℕ) → n < kept .stored → Keeps (recordAt table n) r → ⊥) where
+    -- they are those of no stored state
+    new : (i : ℕ) → i < length (e .clips) → stepsOver code (clipAt (e .clips) i) ≡ stepsOver code tried → ⊥
+    new i h same = nowhere i (omega (arith, e .number)) (subst (Keeps (recordAt table i)) (same ∙ sym led) (e .keeps i h))
+
+    -- there is no record for them
+    left-out : room ≤ kept .stored → Exploring code room table k (b + 1) ended (record { stored = kept .stored; full = true })
+    left-out h =
+        record {
+          clips = e .clips;
+          frames = e .frames;
+          number = e .number;
+          holds = e .holds;
+          keeps = e .keeps;
+          shows = e .shows;
+          searching = full-turn _ _ _ _ _ _ _ _ _ (e .searching) (m .more) (m .byte) missed new (omega (arith, e .number));
+        }
+
+    -- they are stored
+    module _ (more : kept .stored < room) (after : List ℕ) (s : Stores table after (kept .stored) r (k + 1) b) where
+      same-record : (i : ℕ) → i < length (e .clips) → recordAt after i ≡ recordAt table i
+      same-record i h = s .others i (omega (arith, e .number))
+
+      old-show : (i : ℕ) → i < length (e .clips) → Shows after i (clipAt (e .clips) i)
+      old-show i h = shows-kept table after i (clipAt (e .clips) i) (λ j l. same-record j (omega arith)) (e .shows i h)
+
+      new-show : Shows after (length (e .clips)) tried
+      unfolding Shows
+      new-show = rw (e .number) (s .written .own-frame, k, s .written .own-link, omega (arith, e .number, inside), old-show k inside)
+
+      stored : Exploring code room after k (b + 1) ended (record { stored = kept .stored + 1; full = kept .full })
+      stored =
+          record {
+            clips = e .clips ++ tried ∷ [];
+            frames = e .frames;
+            number = omega (arith, length-more (e .clips) tried, e .number);
+            holds = record { fits = omega (arith, e .holds .fits, s .same); most = e .holds .most };
+            keeps = at-more (e .clips) tried (λ i c. Keeps (recordAt after i) (stepsOver code c)) (λ i h. rw (same-record i h) (e .keeps i h)) (rw (← led, e .number) (s .written .keeps));
+            shows = at-more (e .clips) tried (Shows after) old-show new-show;
+            searching = new-turn _ _ _ _ _ _ _ _ _ (e .searching) (m .more) (m .byte) missed new (omega (arith, e .number));
+          }
+
+-- Keeping a trial's state: it is known, there is no record for it, or it is stored
+module _ (room : ℕ) (table : List ℕ) (k b : ℕ) (kept : Kept) (r : Registers) where
+  pub keeping-known : (n : ℕ) → Looks table (kept .stored) r (Look.At n) → Keeping room table table k b kept r kept
+  keeping-known n looks code ended m = (known m n (looks .0) (looks .1), refl)
+
+  module _ (looks : Looks table (kept .stored) r Look.Nowhere) where
+    pub keeping-full : room ≤ kept .stored → Keeping room table table k b kept r (record { stored = kept .stored; full = true })
+    keeping-full h code ended m = (left-out m looks h, refl)
+
+    pub keeping-new : kept .stored < room → (after : List ℕ) → Stores table after (kept .stored) r (k + 1) b → Keeping room table after k b kept r (record { stored = kept .stored + 1; full = kept .full })
+    keeping-new h after s code ended m = (stored m looks h after s, same-record m looks h after s k (inside m))
+
+-- The table has room for what is stored, and one record more if there is one
+module _ {code : Code} {room : ℕ} {table : List ℕ} {k b ended : ℕ} {kept : Kept} (e : Exploring code room table k b ended kept) where
+  pub stored-fits : kept .stored * limits .record_bytes ≤ length table
+  stored-fits = omega (arith, e .number, e .searching .inside, e .holds .fits)
+
+  pub next-fits : kept .stored < room → (kept .stored + 1) * limits .record_bytes ≤ length table
+  next-fits h = omega (arith, e .holds .fits)
+
+  pub state-fits : k < ended → (k + 1) * limits .record_bytes ≤ length table
+  state-fits h = omega (arith, e .searching .begun, e .searching .inside, e .holds .fits)
+
+  pub state-most : k < ended → k + 1 ≤ limits .records
+  state-most h = omega (arith, e .searching .begun, e .searching .inside, e .holds .most)
+
+  -- all bytes are tried with a state
+  pub to-next-state : k < ended → b ≡ frameBytes → Exploring code room table (k + 1) 0 ended kept
+  to-next-state more all =
+      record {
+        clips = e .clips;
+        frames = e .frames;
+        number = e .number;
+        holds = e .holds;
+        keeps = e .keeps;
+        shows = e .shows;
+        searching = next-state _ _ _ _ _ _ _ _ _ (e .searching) more all;
+      }
+
+  -- all clips of a length are tried, and there are new states
+  pub to-next-length : k ≡ ended → kept .full ≡ false → Exploring code room table k b (kept .stored) kept
+  to-next-length done f =
+      record {
+        clips = e .clips;
+        frames = e .frames + 1;
+        number = e .number;
+        holds = e .holds;
+        keeps = e .keeps;
+        shows = e .shows;
+        searching = rw (← e .number) (next-length _ _ _ _ _ _ _ _ _ (e .searching) done f);
+      }
+
+  module _ (good : Good code) where
+    -- a trial satisfies
+    pub to-met : k < ended → b < frameBytes → ((s : Registers) → Keeps (recordAt table k) s → advancedBy code b s .bit ≡ true) → Met code room table k b ended
+    unfolding advancedBy
+    to-met more byte hit =
+        let there : k < length (e .clips) = omega (arith, e .searching .begun) in
+        let out : Hits code (b ∷ clipAt (e .clips) k) = sym (output-step code good b (clipAt (e .clips) k)) ∙ hit _ (e .keeps k there) in
+        record {
+          clip = clipAt (e .clips) k;
+          inside = omega (arith, e .searching .inside);
+          shows = e .shows k there;
+          right = ends-met _ _ _ (stepwise code good) _ _ _ _ _ _ (e .searching) more byte out;
+        }
+
+    pub to-none : k ≡ ended → kept .full ≡ false → kept .stored ≡ ended → Right (stepsOver code) (Hits code) room (none ended)
+    to-none done f all = ends-none _ _ _ (stepwise code good) _ _ _ _ _ _ (e .searching) done f (sym all ∙ sym (e .number))
+
+    pub to-no-room : k ≡ ended → kept .full ≡ true → Right (stepsOver code) (Hits code) room noRoom
+    to-no-room done full = ends-full _ _ _ (stepwise code good) _ _ _ _ _ _ (e .searching) done full
+
+-- The fresh state is stored
+pub to-begin : (code : Code) (room : ℕ) (table after : List ℕ) → Holds room table → 1 ≤ room → (r : Registers) → r ≡ freshRegisters → Stores table after 0 r 0 0 → Exploring code room after 0 0 1 (record { stored = 1; full = false })
+unfolding Shows stepsOver
+to-begin code room table after holds some r fresh s =
+    record {
+      clips = [] ∷ [];
+      frames = 0;
+      number = refl;
+      holds = record { fits = omega (arith, holds .fits, s .same); most = holds .most };
+      keeps = only (λ i c. Keeps (recordAt after i) (stepsOver code c)) (subst (Keeps (recordAt after 0)) fresh (s .written .keeps));
+      shows = only (Shows after) (s .written .own-link);
+      searching = begins _ _ _ some;
+    }
+  where
+    only : (P : ℕ → Clip → Type 0) → P 0 [] → (i : ℕ) → i < 1 → P i (clipAt ([] ∷ []) i)
+    only P p zero h = p
+    only P p (suc i) h = absurd (omega arith)

@@ -1,0 +1,209 @@
+-- What the parts of `search` come to is a right answer: exploring ends with one by the code's output, and the output of a rule's code is the rule's meaning.
+use mathlib.Core.Path.{_≡_, refl, sym, ap, _∙_}
+use mathlib.Core.Bool.{true, false}
+use mathlib.Core.List.{List, _∷_}
+use mathlib.Core.Logic.{_↔_, by-cases}
+use Prim.Native.Nat.{ℕ, _+_, _*_, _≤_, _<_}
+use native.Mathlib.Decide.{decLe, decLt}
+use native.Mathlib.Numerals.{add-one}
+use native.Mathlib.Omega.{arith}
+use borrow.Author.Tests.{lt-ltb, le-ltb}
+use lib.ListN.{length, take, replicate, length-take, List·getD-eq-default}
+use lib.Seq.{getD-take, take-at}
+use Rattle.reading.specs.Buffers.{AllBytes, over}
+use Rattle.reading.specs.Each.{Each}
+use Rattle.reading.specs.Frames.{Clip}
+use Rattle.reading.specs.InTurn.{items}
+use Rattle.reading.specs.Limits.{limits}
+use Rattle.reading.specs.declared.refusal.Refusal.{Refusal}
+use Rattle.rules.specs.Accepted.{IsRule, mostHorizon}
+use Rattle.rules.specs.Formula.{Formula, horizon}
+use Rattle.rules.specs.Good.{InRange, postfix}
+use Rattle.rules.specs.Loading.{Items, Reading, accepted, refused, readRule, loadedOf}
+use Rattle.rules.specs.Meaning.{Holds, holds}
+use Rattle.rules.proofs.Accepted.{accepted-rule}
+use Rattle.rules.proofs.Agreement.{agreement}
+use Rattle.rules.proofs.Horizon.{first-frames}
+use Rattle.sequencer.specs.After.{stepsOver}
+use Rattle.sequencer.specs.Bits.{output}
+use Rattle.sequencer.specs.Code.{Code}
+use Rattle.sequencer.specs.Loading.{readCode, programOf}
+use Rattle.sequencer.specs.Programs.{Sound, codeIn}
+use Rattle.rules.specs.declared.load.Loaded.{Loaded}
+use Rattle.sequencer.specs.declared.load.Loaded as program
+use Rattle.sequencer.specs.declared.load.Program.{Program}
+use Rattle.sequencer.proofs.Accepted.{ready-code}
+use Rattle.emitter.specs.Emitting.{mostCodeBytes, emittedOf, outAfter}
+use Rattle.emitter.specs.Translation.{codeFor, codeBytes}
+use Rattle.emitter.specs.declared.emit.Emitted.{Emitted}
+use Rattle.emitter.proofs.Accepted.{code-some, good-code, code-accepted}
+use Rattle.emitter.proofs.Emitting.{always-suffices}
+use Rattle.emitter.proofs.Wires.{output-holds}
+use Rattle.paths.specs.Answers.{First, Answer, met, none, noRoom, Right}
+use Rattle.paths.proofs.Order.{shorter-less}
+use Rattle.paths.proofs.Unique.{first-alike, right-alike}
+use Rattle.finder.specs.Exploring.{Hits, Ready, Ends}
+use Rattle.finder.specs.Finding.{foundOf, witnessAfter, Answers, shortWitness, SearchSays}
+use Rattle.finder.specs.Records.{roomOf}
+use Rattle.finder.specs.Searches.{CanTell, Tells, CanSearch, Searchable, RuleAnswers}
+use Rattle.finder.specs.declared.explore.End.{End}
+use Rattle.finder.specs.declared.search.Found.{Found}
+
+-- The table's records lie within it
+room-fits : (table : List ℕ) → (roomOf table * limits .record_bytes ≤ length table) × (roomOf table ≤ limits .records)
+unfolding roomOf
+room-fits table = (omega arith, omega arith)
+
+pub can-explore : (numbers : List ℕ) (n : ℕ) (table : List ℕ) (room : ℕ) → room ≡ roomOf table → Sound numbers n → Ready numbers n room table
+can-explore numbers n table room own sound =
+    record { sound = sound; holds = record { fits = rw own (room-fits table .0); most = rw own (room-fits table .1) } }
+
+-- What exploring ends with can be told, and is a right answer
+module _ (numbers : List ℕ) (n : ℕ) (table witness : List ℕ) (room : ℕ) (own : room ≡ roomOf table) (after : List ℕ) (same : length after ≡ length table) where
+  abbrev code : Code
+  code = codeIn numbers n
+
+  pub can-tell : CanSearch numbers n witness → (end : End) → Ends code room after end → CanTell end after witness
+  can-tell can (End.Met k b m) t =
+      record {
+        clip = t .clip;
+        shows = t .shows;
+        inside = omega (arith, t .inside, own, room-fits table .0, same);
+        most = omega (arith, t .inside, own, room-fits table .1);
+        room = omega (arith, can .room _ (t .right .0));
+      }
+  can-tell can (End.None m) right = tt
+  can-tell can End.NoRoom right = tt
+
+  module _ (r : Found) (table′ witness′ : List ℕ) (zero : table′ ≡ replicate (length after) 0) where
+    answered : (answer : Answer) → Right (stepsOver code) (Hits code) room answer → r ≡ foundOf answer → witness′ ≡ witnessAfter answer witness
+        → Answers code (Hits code) table witness r table′ witness′
+    answered answer right says left =
+        record { answer = answer; right = rw (← own) right; own-answer = says; own-table = zero ∙ rw same; own-witness = left }
+
+    pub answers-end : (end : End) → Ends code room after end → Tells end after witness r witness′ → Answers code (Hits code) table witness r table′ witness′
+    answers-end (End.Met k b m) t tells =
+        let (says, left) = tells (t .clip) (t .shows) in
+        answered (met (b ∷ t .clip) m) (t .right) (says ∙ ap (λ l. Found.Met l m) (add-one (length (t .clip)))) left
+    answers-end (End.None m) right tells = answered (none m) right (tells .0) (tells .1)
+    answers-end End.NoRoom right tells = answered noRoom right (tells .0) (tells .1)
+
+-- A rule's code has the output 1 on just the clips that satisfy the rule
+hits-holds : (f : Formula) → Each InRange (postfix f) → (c : Clip) → Hits (codeFor f) c ↔ Holds f c
+hits-holds f ranges c =
+    let e : output (codeFor f) c ≡ holds f c = ap (λ w. w c) (output-holds f ranges) in
+    (λ h. agreement f c .0 (sym e ∙ h), λ h. e ∙ agreement f c .1 h)
+
+take-bytes : (n : ℕ) (c : Clip) → AllBytes c → AllBytes (take n c)
+take-bytes n c bytes i =
+    by-cases (decLt i n) (λ h. rw (getD-take n c i 0 h) (bytes i)) λ h.
+    rw (List·getD-eq-default (take n c) 0 {n = i} (omega (arith, length-take n c))) (omega arith)
+
+-- The first clip that satisfies a rule has at most horizon + 1 frames: else its first frames satisfy it too
+pub first-short : (f : Formula) (c : Clip) → First (Holds f) c → length c ≤ horizon f + 1
+first-short f c first =
+    by-cases (decLe (length c) (horizon f + 1)) (λ h. h) λ h.
+    let long : horizon f < length c = omega arith in
+    let cut = length-take (horizon f + 1) c in
+    absurd (first .first (take (horizon f + 1) c)
+    (record { bytes = take-bytes (horizon f + 1) c (first .satisfying .bytes); some = omega (arith, cut); meets = first-frames f c long .0 (first .satisfying .meets) })
+    (shorter-less _ _ (omega (arith, cut))))
+
+-- An accepted rule, its emitted code, and the program that is loaded from it
+module _ (rule : List ℕ) (small : AllBytes rule) (is : Items) (f : Formula) (reads : readRule rule ≡ accepted is f) where
+  is-rule : IsRule rule is f
+  is-rule = accepted-rule rule is f small reads
+
+  module _ (out : List ℕ) (size : length out ≡ mostCodeBytes) (answer : Emitted) (own : answer ≡ emittedOf (readRule rule) out) where
+    emitted : answer ≡ Emitted.Length (length (codeBytes f))
+    emitted = own ∙ always-suffices rule out is f small reads (omega arith)
+
+    pub not-emit-refused : (r : Refusal) → answer ≡ Emitted.Refused r → ⊥
+    not-emit-refused r e = let z : _≡_ {A = ℕ} 0 1 = cc (emitted, e) in omega arith
+
+    module _ (after : List ℕ) (left : after ≡ outAfter answer (readRule rule) out) (n : ℕ) (length-is : answer ≡ Emitted.Length n) where
+      code-written : take n after ≡ codeBytes f
+      code-written =
+          let many : n ≡ length (codeBytes f) = cc (emitted, length-is) in
+          let l : after ≡ over (codeBytes f) out = left ∙ rw (length-is, reads) in
+          rw l (take-at (codeBytes f) _ n (sym many))
+
+      -- it is read as the rule's code
+      code-read : readCode (take n after) ≡ items (codeFor f)
+      code-read = rw code-written (code-accepted rule is f is-rule)
+
+      module _ (p : Program) (loads : p ≡ programOf (readCode (take n after))) where
+        pub not-load-refused : (r : Refusal) → program.Loaded.Refused r ≡ p .loaded → ⊥
+        unfolding programOf
+        not-load-refused r e =
+            let l : p .loaded ≡ program.Loaded.Accepted (length (codeFor f)) = ap (λ q. q .loaded) loads ∙ rw code-read in
+            let z : _≡_ {A = ℕ} 0 1 = cc (e, l) in
+            omega arith
+
+        pub rule-ready : (count : ℕ) → program.Loaded.Accepted count ≡ p .loaded → (codeIn (p .numbers) count ≡ codeFor f) × Sound (p .numbers) count
+        unfolding programOf
+        rule-ready count e =
+            let l : p .loaded ≡ program.Loaded.Accepted (length (codeFor f)) = ap (λ q. q .loaded) loads ∙ rw code-read in
+            let ready = ready-code (take n after) p count (codeFor f) code-read (good-code rule is f is-rule) (code-some rule is f is-rule) loads (cc (e, l)) in
+            (cc (ready .own, ready .is, code-read), ready .sound)
+
+  -- The search by that program is the search for the rule
+  module _ (numbers : List ℕ) (count : ℕ) (ready : (codeIn numbers count ≡ codeFor f) × Sound numbers count) where
+    alike : (c : Clip) → Hits (codeIn numbers count) c ↔ Holds f c
+    alike c = rw (ready .0) (hits-holds f (rw (is-rule .own-items) at (is-rule .ranges)) c)
+
+    pub can-search : (witness : List ℕ) → horizon f + 1 ≤ length witness → CanSearch numbers count witness
+    can-search witness long =
+        record {
+          sound = ready .1;
+          room = λ c first. omega (arith, first-short f c (first-alike (Hits (codeIn numbers count)) (Holds f) (λ x d. alike (x ∷ d)) c first));
+        }
+
+    pub rule-answers : (table witness : List ℕ) (r : Found) (table′ witness′ : List ℕ)
+        → Answers (codeIn numbers count) (Hits (codeIn numbers count)) table witness r table′ witness′
+        → Answers (codeFor f) (Holds f) table witness r table′ witness′
+    rule-answers table witness r table′ witness′ a =
+        record {
+          answer = a .answer;
+          right = right-alike (stepsOver (codeIn numbers count)) (stepsOver (codeFor f)) (Hits (codeIn numbers count)) (Holds f) _ (a .answer) (λ c. rw (ready .0)) (λ x c. alike (x ∷ c)) (a .right);
+          own-answer = a .own-answer;
+          own-table = a .own-table;
+          own-witness = a .own-witness;
+        }
+
+-- What loading a rule tells
+read-accepted : (read : Reading) (n h : ℕ) → loadedOf read ≡ Loaded.Accepted n h → (is : Items) × (f : Formula) × (read ≡ accepted is f) × (h ≡ horizon f)
+read-accepted (accepted is f) n h e = (is, f, refl, cc)
+read-accepted (refused r) n h e = absurd (let z : _≡_ {A = ℕ} 0 1 = cc in omega arith)
+
+read-refused : (read : Reading) (r : Refusal) → loadedOf read ≡ Loaded.Refused r → read ≡ refused r
+read-refused (accepted is f) r e = absurd (let z : _≡_ {A = ℕ} 0 1 = cc in omega arith)
+read-refused (refused s) r e = cc
+
+module _ (rule : List ℕ) (answer : Loaded) (own : answer ≡ loadedOf (readRule rule)) where
+  pub says-refused : (table witness : List ℕ) (r : Refusal) → answer ≡ Loaded.Refused r → SearchSays (readRule rule) table witness (Found.Refused r) table witness
+  says-refused table witness r e = rw (read-refused (readRule rule) r (sym own ∙ e)) (record { own-answer = refl; own-table = refl; own-witness = refl })
+
+  module _ (n h : ℕ) (e : answer ≡ Loaded.Accepted n h) where
+    rule-read : (is : Items) × (f : Formula) × (readRule rule ≡ accepted is f) × (h ≡ horizon f)
+    rule-read = read-accepted (readRule rule) n h (sym own ∙ e)
+
+    pub horizon-near : AllBytes rule → h ≤ mostHorizon
+    horizon-near small = let (is, f, reads, near) = rule-read in omega (arith, accepted-rule rule is f small reads .near)
+
+    module _ (witness : List ℕ) where
+      pub says-short : length witness < h + 1 → (table : List ℕ) → SearchSays (readRule rule) table witness (Found.Refused Refusal.ShortWitness) table witness
+      says-short short table =
+          let (is, f, reads, near) = rule-read in
+          let l : shortWitness f witness ≡ true = lt-ltb (length witness) (horizon f + 1) (omega arith) in
+          rw (reads, l) (record { own-answer = refl; own-table = refl; own-witness = refl })
+
+      module _ (long : h + 1 ≤ length witness) where
+        pub searchable : Searchable rule witness
+        searchable = let (is, f, reads, near) = rule-read in record { is = is; formula = f; reads = reads; long = omega arith }
+
+        pub says-answers : (table : List ℕ) (r : Found) (table′ witness′ : List ℕ) → RuleAnswers rule table witness r table′ witness′ → SearchSays (readRule rule) table witness r table′ witness′
+        says-answers table r table′ witness′ answers =
+            let (is, f, reads, near) = rule-read in
+            let l : shortWitness f witness ≡ false = le-ltb (length witness) (horizon f + 1) (omega arith) in
+            rw (reads, l) (answers is f reads)

@@ -1,0 +1,9 @@
+-- The theorems about the definitions, and the laws that the functions' proofs cite.
+pub mod Records
+pub mod Tables
+pub mod Exploring
+pub mod Trying
+pub mod Witness
+pub mod Finding
+pub mod Demand
+pub mod Unique

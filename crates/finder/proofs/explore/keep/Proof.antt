@@ -1,0 +1,72 @@
+-- `keep` meets its contract: what the look-up and the store leave is one of the three turns of a trial that does not satisfy.
+use mathlib.Core.Path.{subst}
+use Prim.Native.Nat.{_+_, _≤_}
+use native.Mathlib.Omega.{arith}
+use Rattle.reading.specs.Limits.{limits}
+use Rattle.finder.specs.Tables.{Looks}
+use Rattle.finder.specs.declared.table.Look.{Look}
+use Rattle.finder.proofs.Exploring.{stored-fits, next-fits, state-most, keeping-known, keeping-full, keeping-new}
+use borrow.Author.Needs.{needs}
+use Rattle.finder.proofs.explore.keep.Statement.{statement}
+use Rattle.finder.proofs.explore.keep.Tie as tie
+
+-- the number of the state and one more is a link
+most : (c : tie.Start) → c .args .from + 1 ≤ limits .records
+most c = state-most (c .pre .2 .exploring) (c .pre .2 .more)
+
+-- the state is new
+nowhere : (c : tie.After-enum-told2) → Looks (c .before .before .before .before .before .args .table .now) (c .before .before .before .before .before .args .kept .stored) (c .before .before .before .before .before .args .registers) Look.Nowhere
+nowhere c = subst (Looks _ _ _) (c .enum-told2 .given .1) (c .before .before .find .ensures)
+
+find-requires : tie.Need-find-requires
+find-requires c κs = stored-fits (c .before .before .pre .2 .exploring)
+
+enum-told : tie.Need-enum-told
+enum-told c = search needs
+
+enum-told-2 : tie.Need-enum-told-2
+enum-told-2 c = search needs
+
+same-length : tie.Need-same-length
+same-length c = search needs
+
+returns : tie.Need-returns
+returns c = keeping-full _ _ _ _ _ _ (nowhere (c .before .before)) (c .if1 .taken)
+
+add-store : tie.Need-add-store
+add-store c = omega (arith, most (c .before .before .before .before .before .before .before .before))
+
+store-requires : tie.Need-store-requires
+store-requires c κs = (next-fits (c .before .before .before .before .before .before .before .before .pre .2 .exploring) (c .before .if1 .left), most (c .before .before .before .before .before .before .before .before))
+
+add-t15 : tie.Need-add-t15
+add-t15 c = omega (arith, c .before .before .before .before .before .if1 .left, c .before .before .before .before .before .before .before .before .before .before .before .before .pre .2 .exploring .holds .most)
+
+same-length-2 : tie.Need-same-length-2
+same-length-2 c = search needs
+
+returns-2 : tie.Need-returns-2
+returns-2 c = keeping-known _ _ _ _ _ _ _ (subst (Looks _ _ _) (c .enum-told .given .1) (c .before .before .find .ensures))
+
+same-length-3 : tie.Need-same-length-3
+same-length-3 c = search needs
+
+returns-3 : tie.Need-returns-3
+returns-3 c = keeping-new _ _ _ _ _ _ (nowhere (c .before .before .before .before .before .before .before)) (c .before .before .before .before .before .if1 .left) _ (c .before .before .before .store .ensures)
+
+pub keep-spec : {M : Type 1} → statement M
+keep-spec =
+    tie.close
+    (tie.spec
+    find-requires
+    enum-told
+    enum-told-2
+    same-length
+    returns
+    add-store
+    store-requires
+    add-t15
+    same-length-2
+    returns-2
+    same-length-3
+    returns-3)

@@ -1,0 +1,102 @@
+-- `try_length` meets its contract. The outer loop's invariant is `States`, the inner one's `Bytes`; the measures are the states and the bytes that are not tried yet. The way out by the label has
+-- a trial that satisfies.
+use mathlib.Core.Path.{refl, _∙_}
+use mathlib.Core.Logic.{inl, inr}
+use Prim.Native.Nat.{_-_, _<_}
+use native.Mathlib.Omega.{arith}
+use Rattle.paths.specs.Searching.{frameBytes}
+use Rattle.finder.proofs.Exploring.{state-fits}
+use Rattle.finder.proofs.Trying.{States, Bytes, states-first, bytes-first, misses, bytes-more, bytes-met, states-more, states-all}
+use Rattle.finder.proofs.explore.try_length.Statement.{statement}
+use Rattle.finder.proofs.explore.try_length.Tie as tie
+
+abbrev Inv-loop : tie.InvT-loop
+Inv-loop numbers count table₀ room first ended kept₀ hit₀ tried₀ state registers frame₀ table kept hit tried frame =
+    Bytes numbers count room ended registers table₀ table state frame kept hit × (frame < frameBytes)
+
+abbrev μ-loop : tie.MeasureT-loop
+μ-loop numbers count table₀ room first ended kept₀ hit₀ tried₀ state registers frame₀ table kept hit tried frame =
+    frameBytes - frame
+
+abbrev Inv-all : tie.InvT-all
+Inv-all numbers count table₀ room first ended kept₀ hit₀ tried₀ state₀ table kept hit tried state =
+    States numbers count room ended table₀ table state kept hit
+
+abbrev μ-all : tie.MeasureT-all
+μ-all numbers count table₀ room first ended kept₀ hit₀ tried₀ state₀ table kept hit tried state = ended - state
+
+all-holds : tie.Need-all-holds Inv-loop μ-loop Inv-all μ-all
+all-holds c = states-first _ _ _ _ _ _ _ (c .before .before .pre)
+
+registers-at-requires : tie.Need-registers-at-requires Inv-loop μ-loop Inv-all μ-all
+registers-at-requires c κs = state-fits (c .before .before .all .inv .exploring) (c .before .all-test .taken)
+
+loop-holds : tie.Need-loop-holds Inv-loop μ-loop Inv-all μ-all
+loop-holds c = (bytes-first _ _ _ _ _ _ _ _ _ (c .before .before .before .all .inv) (c .before .before .all-test .taken) _ (c .registers-at .ensures), omega arith)
+
+advance-requires : tie.Need-advance-requires Inv-loop μ-loop Inv-all μ-all
+advance-requires c κs = c .before .loop .inv .0 .sound
+
+keep-requires : tie.Need-keep-requires Inv-loop μ-loop Inv-all μ-all
+keep-requires c κs = (_, _, misses _ _ _ _ (c .before .before .before .before .loop .inv .0) (c .before .before .before .before .loop .inv .1) _ (c .before .before .advance .ensures) (c .before .if1 .left))
+
+add-frame : tie.Need-add-frame Inv-loop μ-loop Inv-all μ-all
+add-frame c = omega (arith, c .if2 .taken)
+
+loop-less : tie.Need-loop-less Inv-loop μ-loop Inv-all μ-all
+loop-less c = omega (arith, c .if2 .taken)
+
+loop-again : tie.Need-loop-again Inv-loop μ-loop Inv-all μ-all
+loop-again c = (bytes-more _ _ _ _ (c .before .before .before .before .before .before .before .before .loop .inv .0) (c .before .before .before .before .before .before .before .before .loop .inv .1) _ (c .before .before .before .before .before .before .advance .ensures) (c .before .before .before .before .before .if1 .left) _ _ (c .before .before .table .given) (c .before .before .before .keep .ensures) _ refl, omega (arith, c .if2 .taken))
+
+-- all bytes are tried with a state: the last one is 255
+all-bytes : (c : tie.Left-loop Inv-loop μ-loop Inv-all μ-all)
+    → let start = c .before .before .before .before .before .before .before .before in
+    let state = c .before .before .before .before .before in
+    Bytes (start .args .numbers .now) (start .args .count) (start .args .room) (start .args .ended) (c .before .before .registers-at .result) (state .all .table) (c .loop-test .table) (state .all .state) frameBytes (c .loop-test .kept) (c .before .loop .hit)
+all-bytes c = elim (c .loop-test .came) [ inl x ↦ absurd (omega (arith, x .0 .left, c .before .loop .inv .1)) | inr x ↦ rw (x .8, x .9) (bytes-more _ _ _ _ (c .before .loop .inv .0) (c .before .loop .inv .1) _ (x .1 .ensures) (x .2 .left) _ _ (x .5 .given) (x .4 .ensures) _ (omega (arith, x .7 .left, c .before .loop .inv .1))) ]
+
+add-state : tie.Need-add-state Inv-loop μ-loop Inv-all μ-all
+add-state c = omega (arith, c .before .loop .inv .0 .more)
+
+all-less : tie.Need-all-less Inv-loop μ-loop Inv-all μ-all
+all-less c = omega (arith, c .before .loop .inv .0 .more)
+
+all-again : tie.Need-all-again Inv-loop μ-loop Inv-all μ-all
+all-again c = states-more _ _ _ _ _ _ _ _ _ _ _ _ (c .before .before .before .before .before .all .inv .same) (all-bytes c) refl
+
+same-length : tie.Need-same-length Inv-loop μ-loop Inv-all μ-all
+same-length c = c .before .all .inv .same
+
+returns : tie.Need-returns Inv-loop μ-loop Inv-all μ-all
+returns c = (c .before .all .inv .same, states-all _ _ _ _ _ _ _ _ _ _ (c .before .all .inv) (c .all-test .left))
+
+same-length-2 : tie.Need-same-length-2 Inv-loop μ-loop Inv-all μ-all
+same-length-2 c = c .before .before .before .loop .inv .0 .same ∙ c .before .before .before .before .before .before .before .all .inv .same
+
+returns-2 : tie.Need-returns-2 Inv-loop μ-loop Inv-all μ-all
+returns-2 c = (same-length-2 c, bytes-met _ _ _ _ (c .before .before .before .loop .inv .0) (c .before .before .before .loop .inv .1) _ (c .before .advance .ensures) (c .if1 .taken))
+
+pub try-length-spec : {M : Type 1} → statement M
+try-length-spec =
+    tie.close
+    (tie.spec
+    Inv-loop
+    μ-loop
+    Inv-all
+    μ-all
+    all-holds
+    registers-at-requires
+    loop-holds
+    advance-requires
+    keep-requires
+    add-frame
+    loop-less
+    loop-again
+    add-state
+    all-less
+    all-again
+    same-length
+    returns
+    same-length-2
+    returns-2)

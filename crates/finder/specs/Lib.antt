@@ -1,0 +1,7 @@
+-- What the contracts of `finder` cite.
+pub mod Finding
+pub mod Demand
+pub mod Records
+pub mod Tables
+pub mod Exploring
+pub mod Searches

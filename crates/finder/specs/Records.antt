@@ -1,0 +1,95 @@
+-- The table's records. Document 01: "A record takes 80 bytes; room is the table's length divided by 80, rounded down, at most 65,536." A record keeps the registers of a state, two
+-- bytes for each counter, lowest first, and a bit for each delay bit; the link to the record that it came from, as its number and one more, or 0; and the frame byte in front.
+use mathlib.Core.Path.{_≡_}
+use mathlib.Core.Bool.{Bool, true, false, cond}
+use mathlib.Core.List.{List}
+use Prim.Native.Nat.{ℕ, zero, suc, _+_, _*_, _-_, _/_, _%_, _≤_, _<_, min}
+use lib.Dec.{ltb}
+use lib.ListN.{length, getD, take, drop}
+use Rattle.reading.specs.Frames.{hasFlag}
+use Rattle.reading.specs.Limits.{limits}
+use Rattle.sequencer.specs.Running.{byteOf}
+use Rattle.sequencer.specs.declared.registers.Registers.{Registers}
+
+-- The bytes of the counters
+abbrev pub counterBytes : ℕ
+counterBytes = 2 * limits .counters
+
+-- The bytes of all registers
+abbrev pub keyBytes : ℕ
+keyBytes = counterBytes + limits .delays / 8
+
+-- The number of so many bits, the first lowest
+unfoldable pub bitsValue : ℕ → List Bool → ℕ
+bitsValue zero bits = 0
+bitsValue (suc n) bits = byteOf (getD bits 0 false) + 2 * bitsValue n (drop 1 bits)
+
+-- Four bits as a number, the first lowest
+abbrev pub nibbleOf : Bool → Bool → Bool → Bool → ℕ
+nibbleOf a b c d = byteOf a + 2 * byteOf b + 4 * byteOf c + 8 * byteOf d
+
+-- One of a counter's two bytes
+abbrev pub halfOf : ℕ → ℕ → ℕ
+halfOf counter zero = counter % 256
+halfOf counter (suc n) = counter / 256
+
+-- The bytes of registers, by their places
+unfoldable pub keyByte : Registers → ℕ → ℕ
+keyByte r j = cond (ltb j counterBytes) (halfOf (getD (r .counters) (j / 2) 0) (j % 2)) (bitsValue 8 (drop (8 * (j - counterBytes)) (r .delays)))
+
+-- Registers: so many counters and so many delay bits
+pub record Whole (r : Registers) : Type 0 where
+  pub counters : length (r .counters) ≡ limits .counters
+  pub delays : length (r .delays) ≡ limits .delays
+
+-- Bytes that keep registers
+pub record Keeps (bytes : List ℕ) (r : Registers) : Type 0 where
+  pub whole : Whole r
+  pub own : (j : ℕ) → j < keyBytes → getD bytes j 0 ≡ keyByte r j
+
+-- The registers that bytes keep, if they keep any
+abbrev pub KeptBy : List ℕ → Registers → Type 0
+KeptBy bytes r = (kept : Registers) → Keeps bytes kept → r ≡ kept
+
+-- Bytes of which the first keep registers now, and the others are as before
+pub record KeyWritten (r : Registers) (before after : List ℕ) : Type 0 where
+  pub keeps : Keeps after r
+  pub others : (j : ℕ) → keyBytes ≤ j → getD after j 0 ≡ getD before j 0
+  pub same : length after ≡ length before
+
+-- Whether two rows of bytes keep the same registers: it is answered by their bytes
+abbrev pub SameKey : List ℕ → List ℕ → Bool → Type 0
+SameKey bytes key true = (j : ℕ) → j < keyBytes → getD bytes j 0 ≡ getD key j 0
+SameKey bytes key false = ((j : ℕ) → j < keyBytes → getD bytes j 0 ≡ getD key j 0) → ⊥
+
+-- The first counters that bytes keep
+pub record CountersOf (bytes counters : List ℕ) (n : ℕ) : Type 0 where
+  pub all : length counters ≡ limits .counters
+  pub own : (i : ℕ) → i < n → getD counters i 0 ≡ getD bytes (2 * i) 0 + getD bytes (2 * i + 1) 0 * 256
+
+-- The first delay bits that bytes keep
+pub record DelaysOf (bytes : List ℕ) (delays : List Bool) (n : ℕ) : Type 0 where
+  pub all : length delays ≡ limits .delays
+  pub own : (i : ℕ) → i < n → getD delays i false ≡ hasFlag (i % 8) (getD bytes (counterBytes + i / 8) 0)
+
+-- The link of a record: the number of the record that it came from and one more, or 0
+abbrev pub linkIn : List ℕ → ℕ
+linkIn bytes = getD bytes keyBytes 0 + getD bytes (keyBytes + 1) 0 * 256 + getD bytes (keyBytes + 2) 0 * 65536
+
+-- The frame byte of a record
+abbrev pub frameIn : List ℕ → ℕ
+frameIn bytes = getD bytes (keyBytes + 3) 0
+
+-- What a record has
+pub record Has (bytes : List ℕ) (r : Registers) (link frame : ℕ) : Type 0 where
+  pub keeps : Keeps bytes r
+  pub own-link : linkIn bytes ≡ link
+  pub own-frame : frameIn bytes ≡ frame
+
+-- A record of a table, by its number
+abbrev pub recordAt : List ℕ → ℕ → List ℕ
+recordAt table n = take (limits .record_bytes) (drop (n * limits .record_bytes) table)
+
+-- How many records a table has
+unfoldable pub roomOf : List ℕ → ℕ
+roomOf table = min (length table / limits .record_bytes) (limits .records)

@@ -1,0 +1,141 @@
+// Breadth first from the fresh state: each stored state with each frame byte in front, until one satisfies, no state is new, or there is no room.
+ghost use mathlib.Core.Path.{_≡_};
+ghost use lib.ListN.{length};
+ghost use Rattle.sequencer.specs.Programs.{codeIn};
+ghost use Rattle.finder.specs.Exploring.{CanKeep, Keeping, Tries, TriedTo, Ready, Ends};
+use crate::table::Look;
+use crate::table::find;
+use crate::table::registers_at;
+use crate::table::store;
+use sequencer::registers::Registers;
+
+// What is stored: how many states, and whether one was found for which there is no record.
+pub(crate) struct Kept {
+    pub stored: usize,
+    pub full: bool,
+}
+
+// What the trials of a length come to: whether one satisfies, by which state and frame byte, and what is stored.
+pub(crate) struct Trials {
+    pub hit: bool,
+    pub state: usize,
+    pub frame: u8,
+    pub kept: Kept,
+}
+
+// What exploring answers: the state and the frame byte that satisfy and the number of states of shorter clips, the number of all states, or no room.
+pub(crate) enum End {
+    Met {
+        state: usize,
+        frame: u8,
+        states: usize,
+    },
+    None {
+        states: usize,
+    },
+    NoRoom,
+}
+
+// Keeps the state that a trial leads to, unless it is stored already or there is no record for it.
+fn keep(
+    table: &mut [u8],
+    room: usize,
+    kept: Kept,
+    registers: Registers,
+    from: usize,
+    frame: u8,
+) -> Kept
+    requires { ⌜ CanKeep room (now table) from frame kept registers ⌝ }
+    ensures { λ r. ⌜ Keeping room (now (table .entry)) (now (table .exit)) from frame kept registers r ⌝ }
+{
+    match find(&table[..], kept.stored, registers) {
+        Look::At(_) => kept,
+        Look::Nowhere => {
+            if room <= kept.stored {
+                return Kept {
+                    stored: kept.stored,
+                    full: true,
+                };
+            }
+            store(&mut *table, kept.stored, registers, from + 1, frame);
+            Kept {
+                stored: kept.stored + 1,
+                full: kept.full,
+            }
+        }
+    }
+}
+
+// Tries the states of the present length, in order, each with every frame byte in front, up to the first trial that satisfies.
+fn try_length(
+    numbers: &[u16],
+    count: usize,
+    table: &mut [u8],
+    room: usize,
+    first: usize,
+    ended: usize,
+    kept: Kept,
+) -> Trials
+    requires { ⌜ Tries (now numbers) count room (now table) first ended kept ⌝ }
+    ensures { λ r. ⌜ (length (now (table .exit)) ≡ length (now (table .entry))) × TriedTo (codeIn (now (numbers .entry)) count) room (now (table .exit)) ended (r .state) (r .frame) (r .kept) (r .hit) ⌝ }
+{
+    let mut kept = kept;
+    let mut hit = false;
+    let mut tried = 0;
+    let mut state = first;
+    'all: while state < ended {
+        let registers = registers_at(&table[..], state);
+        for frame in 0..=255u8 {
+            let trial = registers.advance(numbers, count, frame);
+            if trial.bit {
+                hit = true;
+                tried = frame;
+                break 'all;
+            }
+            kept = keep(&mut *table, room, kept, trial.registers, state, frame);
+        }
+        state += 1;
+    }
+    Trials {
+        hit,
+        state,
+        frame: tried,
+        kept,
+    }
+}
+
+// Explores length by length, from the fresh state on. A state without a record is no room only once all clips of its length are tried.
+pub(crate) fn explore(numbers: &[u16], count: usize, table: &mut [u8], room: usize) -> End
+    requires { ⌜ Ready (now numbers) count room (now table) ⌝ }
+    ensures { λ r. ⌜ (length (now (table .exit)) ≡ length (now (table .entry))) × Ends (codeIn (now (numbers .entry)) count) room (now (table .exit)) r ⌝ }
+{
+    if room == 0 {
+        return End::NoRoom;
+    }
+    store(&mut *table, 0, Registers::fresh(), 0, 0);
+    let mut kept = Kept {
+        stored: 1,
+        full: false,
+    };
+    let mut first = 0;
+    let mut ended = 1;
+    loop {
+        let trials = try_length(numbers, count, &mut *table, room, first, ended, kept);
+        if trials.hit {
+            return End::Met {
+                state: trials.state,
+                frame: trials.frame,
+                states: ended,
+            };
+        }
+        kept = trials.kept;
+        if kept.full {
+            return End::NoRoom;
+        }
+        if kept.stored == ended {
+            return End::None { states: ended };
+        }
+        first = ended;
+        ended = kept.stored;
+    }
+}

@@ -1,0 +1,5 @@
+// The search: whether any clip satisfies a rule, and the first one that does.
+mod explore;
+mod record;
+pub mod search;
+mod table;

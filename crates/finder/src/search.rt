@@ -1,0 +1,112 @@
+// The search: a rule's bytes, a table and a witness buffer in, an answer out.
+ghost use Rattle.rules.specs.Loading.{readRule};
+ghost use Rattle.sequencer.specs.Programs.{codeIn};
+ghost use Rattle.finder.specs.Exploring.{Hits};
+ghost use Rattle.finder.specs.Finding.{Answers, SearchSays};
+ghost use Rattle.finder.specs.Searches.{CanShow, Showing, CanTell, Tells, CanSearch, Searchable, RuleAnswers};
+use crate::explore::End;
+use crate::explore::explore;
+use crate::table::clear;
+use crate::table::frame_at;
+use crate::table::link_at;
+use crate::table::room_of;
+use emitter::emit::Emitted;
+use emitter::emit::MOST_CODE;
+use emitter::emit::emit;
+use reading::refusal::Refusal;
+use rules::load::Loaded;
+use rules::load::load;
+
+// What the search answers: a clip's length and the number of states, that there is none and the number of states, or the refusal.
+pub enum Found {
+    Met { length: usize, states: usize },
+    None { states: usize },
+    Refused(Refusal),
+}
+
+// Writes the clip that a state shows, with a frame byte in front, in frame order, and answers its length.
+fn write_witness(table: &[u8], state: usize, frame: u8, witness: &mut [u8]) -> usize
+    requires { ⌜ CanShow (now table) state (now witness) ⌝ }
+    ensures { λ r. ⌜ Showing (now (table .entry)) state frame (now (witness .entry)) (now (witness .exit)) r ⌝ }
+{
+    witness[0] = frame;
+    let mut length = 1;
+    let mut at = state;
+    let mut link = link_at(table, at);
+    while link != 0 {
+        witness[length] = frame_at(table, at);
+        length += 1;
+        at = link - 1;
+        link = link_at(table, at);
+    }
+    length
+}
+
+// Tells what exploring ends with: the clip that a state shows, with a frame byte in front, goes into the witness buffer.
+fn tell(end: End, table: &[u8], witness: &mut [u8]) -> Found
+    requires { ⌜ CanTell end (now table) (now witness) ⌝ }
+    ensures { λ r. ⌜ Tells end (now (table .entry)) (now (witness .entry)) r (now (witness .exit)) ⌝ }
+{
+    match end {
+        End::Met {
+            state,
+            frame,
+            states,
+        } => {
+            let length = write_witness(table, state, frame, witness);
+            Found::Met { length, states }
+        }
+        End::None { states } => Found::None { states },
+        End::NoRoom => Found::Refused(Refusal::NoRoom),
+    }
+}
+
+// Searches by code that is loaded, and leaves the table all zero.
+fn search_code(numbers: &[u16], count: usize, table: &mut [u8], witness: &mut [u8]) -> Found
+    requires { ⌜ CanSearch (now numbers) count (now witness) ⌝ }
+    ensures { λ r. ⌜ Answers (codeIn (now (numbers .entry)) count) (Hits (codeIn (now (numbers .entry)) count)) (now (table .entry)) (now (witness .entry)) r (now (table .exit)) (now (witness .exit)) ⌝ }
+{
+    let room = room_of(&table[..]);
+    let end = explore(numbers, count, &mut *table, room);
+    let found = tell(end, &table[..], witness);
+    clear(table);
+    found
+}
+
+// Searches by the emitted code of a rule that is accepted, with a witness buffer that is long enough.
+fn search_rule(rule: &[u8], table: &mut [u8], witness: &mut [u8]) -> Found
+    requires { ⌜ Searchable (now rule) (now witness) ⌝ }
+    ensures { λ r. ⌜ RuleAnswers (now (rule .entry)) (now (table .entry)) (now (witness .entry)) r (now (table .exit)) (now (witness .exit)) ⌝ }
+{
+    let mut code = [0; MOST_CODE];
+    match emit(rule, &mut code) {
+        Emitted::Length(length) => {
+            let program = sequencer::load::decode(&code[..length]);
+            let loaded = program.loaded;
+            match loaded {
+                sequencer::load::Loaded::Accepted(count) => {
+                    let numbers = program.numbers;
+                    search_code(&numbers, count, table, witness)
+                }
+                sequencer::load::Loaded::Refused(refusal) => Found::Refused(refusal),
+            }
+        }
+        Emitted::Refused(refusal) => Found::Refused(refusal),
+    }
+}
+
+// Searches for a clip that satisfies a rule: the first one, in the witness buffer from its first byte on, or that there is none. The table is all
+// zero then, and after refusal 15; a refusal of the rule, then 14, changes nothing.
+pub fn search(rule: &[u8], table: &mut [u8], witness: &mut [u8]) -> Found
+    ensures { λ r. ⌜ SearchSays (readRule (now (rule .entry))) (now (table .entry)) (now (witness .entry)) r (now (table .exit)) (now (witness .exit)) ⌝ }
+{
+    match load(rule) {
+        Loaded::Accepted { items: _, horizon } => {
+            if witness.len() < horizon + 1 {
+                return Found::Refused(Refusal::ShortWitness);
+            }
+            search_rule(rule, table, witness)
+        }
+        Loaded::Refused(refusal) => Found::Refused(refusal),
+    }
+}

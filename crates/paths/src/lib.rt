@@ -1,0 +1,1 @@
+// Breadth first over any step function: definitions and theorems, and no code.

@@ -1,0 +1,548 @@
+//! The list of cases for the search that both programs answer, the same for the
+//! same seed.
+//!
+//! A search that looks a state up by walking all records compares as many as are
+//! stored, for each of 256 bytes on each state. So most rules here have few
+//! states, or their tables little room.
+
+use crate::cases::samples;
+use crate::emit::emit;
+use crate::random::{damaged_rule, generator, good_formula, searched_formula, Budget, Random};
+use crate::rule::{load, Formula, Window, LARGEST_BOUND, LARGEST_FLAG, MOST_LOWER, MOST_TIMED};
+use crate::search::{bytes_of_flags, explore, room, Explored, MOST_RECORDS, RECORD};
+use crate::search_case::SearchCase;
+use crate::stream::bytes_of_text;
+use crate::write::write;
+
+/// The bytes that the buffers are full of.
+const FILLS: [u8; 3] = [0xff, 0x00, 0xa5];
+
+/// Rules with different numbers of states, 1 to 271, that are met or not.
+const COUNTED: [&str; 21] = [
+    "12 00",
+    "11",
+    "10 32 01 01",
+    "12 00 12 01 30 01 03",
+    "12 00 20 32 01 01 12 00 21",
+    "12 00 32 01 02 11 21",
+    "12 00 32 02 04",
+    "12 00 33 00 02 12 00 20 32 01 01 21",
+    "12 00 12 01 31 02 05 11 21",
+    "12 00 33 01 03 32 02 04",
+    "12 00 32 03 03 11 21",
+    "10 32 0b 0b",
+    "12 00 32 00 0d 11 21",
+    "12 00 12 07 30 03 09 12 03 21 20 11 21",
+    "12 00 32 02 02 12 07 32 03 03 21 12 00 21 11 21",
+    "12 00 32 06 06 11 21",
+    "10 32 63 63",
+    "12 00 32 07 07 11 21",
+    "12 00 32 08 08",
+    "12 00 32 00 ff 01 11 21",
+    "12 00 32 00 ff 01 12 00 32 00 fe 01 20 21 32 05 05",
+];
+
+/// The rule of 1,024 states that no clip meets.
+const THOUSAND: &str = "12 00 32 0a 0a 11 21";
+
+/// Rules that are refused, at least one for each number, in its order.
+const REFUSED: [&str; 19] = [
+    "",
+    "13",
+    "10 01",
+    "12",
+    "10 32 05",
+    "12 80 00",
+    "32 80 80",
+    "12 08",
+    "10 12 ff 7f",
+    "12 00 32 04 02",
+    "12 00 32 00 80 02",
+    "21",
+    "10 31 00 00",
+    "12 00 32 ff 01 ff 01 32 02 02",
+    "10 32 00 00 32 00 00 32 00 00 32 00 00 32 00 00 32 00 00 32 00 00 32 00 00 32 00 00 \
+     32 00 00 32 00 00 32 00 00 32 00 00 32 00 00 32 00 00 32 00 00 33 00 00",
+    "10 20 20 20 20 20 20 20 20 20 20 20 20 20 20 20 20 20 20 20 20 20 20 20 20 20 20 20 20 20 20 \
+     20 20 20 20 20 20 20 20 20 20 20 20 20 20 20 20 20 20 20 20 20 20 20 20 20 20 20 20 20 20 20 \
+     20 20 20",
+    "10 10",
+    "12 00 12 01",
+    "12 00 32 00 ff 01 10 20",
+];
+
+/// How large random rules are: so many of a thousand have a search that compares
+/// at most so many records, and so many states are counted before there are too
+/// many.
+const SIZES: [(usize, u64, usize); 5] = [
+    (640, 10_000, 12),
+    (300, 40_000, 25),
+    (54, 200_000, 56),
+    (5, 2_000_000, 180),
+    (1, 12_000_000, 300),
+];
+
+/// A text of hex bytes that is written in this file.
+fn bytes(text: &str) -> Vec<u8> {
+    bytes_of_text(text).expect("hex bytes")
+}
+
+/// What the clips of a formula come to. Only bytes of its own flags are tried, and
+/// what is compared is counted as if all were.
+fn explored(f: &Formula, most: usize) -> Explored {
+    let bytes = bytes_of_flags(f);
+    let mut explored = explore(&emit(f), &bytes, most);
+    explored.compared *= 256 / bytes.len() as u64;
+    explored
+}
+
+/// A case with buffers of these lengths, full of a byte.
+fn case(rule: &[u8], table: usize, witness: usize, fill: u8) -> SearchCase {
+    SearchCase {
+        rule: rule.to_vec(),
+        table: table as u32,
+        witness: witness as u32,
+        fill,
+    }
+}
+
+/// A formula with buffers that are just long enough, full of one of the bytes in
+/// turn.
+fn enough(f: &Formula, turn: usize) -> SearchCase {
+    let table = explored(f, usize::MAX).states * RECORD;
+    let fill = FILLS[turn % FILLS.len()];
+    case(&write(f), table, f.horizon() + 1, fill)
+}
+
+/// How many bytes of the witness buffer a rule asks for. One that is refused asks
+/// for none; it gets a few.
+fn frames(rule: &[u8]) -> usize {
+    load(rule).map_or(4, |rule| rule.horizon + 1)
+}
+
+/// Rules to search a clip for, each with two buffers.
+pub fn search_cases(seed: u64) -> Vec<SearchCase> {
+    let mut out = Vec::new();
+    sample_edges(&mut out);
+    room_edges(&mut out);
+    thousand_states(&mut out);
+    long_tables(&mut out);
+    witness_edges(&mut out);
+    every_flag(&mut out);
+    every_byte(&mut out);
+    every_counter(&mut out);
+    every_delay_bit(&mut out);
+    refusals(&mut generator(seed, 601), &mut out);
+    let mut random = generator(seed, 602);
+    out.extend((0..10_000).map(|_| random_case(&mut random)));
+    out
+}
+
+/// The samples, with tables of whole records and of a byte more or less, up to
+/// eight records, and with witness buffers that are long enough or not.
+fn sample_edges(out: &mut Vec<SearchCase>) {
+    for rule in samples() {
+        let frames = frames(&rule);
+        for fill in FILLS {
+            for table in [
+                0, 1, 79, 80, 81, 159, 160, 161, 239, 240, 319, 320, 399, 560, 640,
+            ] {
+                out.push(case(&rule, table, frames, fill));
+            }
+            for witness in [0, frames - 1, frames + 1, frames + 40] {
+                out.push(case(&rule, 400, witness, fill));
+                out.push(case(&rule, 0, witness, fill));
+            }
+        }
+    }
+}
+
+/// Rules whose states are counted, with tables of just so many records, of a byte
+/// or a record less, and of more; if the states are few, of every number.
+fn room_edges(out: &mut Vec<SearchCase>) {
+    for text in COUNTED {
+        let rule = load(&bytes(text)).expect("a good rule");
+        let states = explored(&rule.formula, usize::MAX).states;
+        let enough = states * RECORD;
+        let mut tables = vec![enough, enough - 1];
+        if states <= 100 {
+            tables.extend([enough - RECORD, enough + 1, enough + 79, enough + RECORD]);
+        }
+        if states <= 16 {
+            tables.extend((0..=states).map(|records| records * RECORD));
+            tables.push(65_536);
+        }
+        for (k, table) in tables.into_iter().enumerate() {
+            let fill = FILLS[(k + states) % FILLS.len()];
+            out.push(case(&bytes(text), table, rule.horizon + 1, fill));
+        }
+    }
+}
+
+/// The rule of 1,024 states: with one record, with the 819 of a table of 65,536
+/// bytes, with a byte less than all its states take, and with as much.
+fn thousand_states(out: &mut Vec<SearchCase>) {
+    let rule = bytes(THOUSAND);
+    let enough = 1_024 * RECORD;
+    for (table, fill) in [
+        (80, 0xff),
+        (65_536, 0xa5),
+        (enough - 1, 0xff),
+        (enough, 0xa5),
+    ] {
+        out.push(case(&rule, table, frames(&rule), fill));
+    }
+}
+
+/// Tables of as many records as there can be, and of more; the whole table is
+/// zero afterwards, or none of it is touched.
+fn long_tables(out: &mut Vec<SearchCase>) {
+    let most = MOST_RECORDS * RECORD;
+    for text in [
+        "12 00",
+        "12 00 32 02 04",
+        "12 00 33 00 02 12 00 20 32 01 01 21",
+        "12 00 32 03 03 11 21",
+        "21",
+    ] {
+        let rule = bytes(text);
+        out.push(case(&rule, most + 81, frames(&rule), 0xff));
+    }
+    let rule = bytes("12 00 32 02 04");
+    out.push(case(&rule, most + 81, 4, 0xff));
+    out.push(case(&rule, most + 81, 5, 0xa5));
+    out.push(case(&rule, most + 81, 5, 0x00));
+    out.push(case(&rule, most + 80, 5, 0xff));
+    out.push(case(&rule, most, 5, 0xff));
+    out.push(case(&rule, most - 1, 5, 0xff));
+}
+
+/// The largest horizon, 4,080, met at once; and a rule of horizon 31 whose first
+/// clip takes all of the witness buffer that it asks for.
+fn witness_edges(out: &mut Vec<SearchCase>) {
+    let mut far = Formula::Flag(0);
+    for _ in 0..MOST_TIMED {
+        far = eventually(0, LARGEST_BOUND, far);
+    }
+    for fill in FILLS {
+        for witness in [4_079, 4_080, 4_081, 4_082] {
+            out.push(case(&write(&far), 80, witness, fill));
+        }
+        // Flag 5 within 32 frames, and not within 31.
+        let long = bytes("12 05 32 00 1f 12 05 20 33 00 1e 21");
+        for witness in [31, 32, 33, 100] {
+            out.push(case(&long, 32 * RECORD, witness, fill));
+        }
+    }
+}
+
+/// Rules about each flag, and about each two of them in one frame or in two.
+fn every_flag(out: &mut Vec<SearchCase>) {
+    let mut formulas = Vec::new();
+    for i in 0..=LARGEST_FLAG {
+        let has = || Formula::Flag(i);
+        formulas.extend([has(), not(has()), and(has(), not(has()))]);
+        for j in 0..=LARGEST_FLAG {
+            let other = || Formula::Flag(j);
+            let later = || eventually(1, 1, other());
+            formulas.extend([
+                and(has(), other()),
+                and(not(has()), other()),
+                and(has(), later()),
+                and(not(has()), later()),
+                Formula::Until(Window { a: 1, b: 2 }, Box::new(has()), Box::new(other())),
+            ]);
+        }
+    }
+    for (k, f) in formulas.iter().enumerate() {
+        out.push(enough(f, k));
+    }
+}
+
+/// Rules about all flags that are met by one byte only.
+fn every_byte(out: &mut Vec<SearchCase>) {
+    for byte in 0..=255usize {
+        let flag = |k: usize| match byte >> k & 1 {
+            1 => Formula::Flag(k),
+            _ => not(Formula::Flag(k)),
+        };
+        let flags = (0..=LARGEST_FLAG).map(flag).collect();
+        out.push(enough(&all(flags), byte));
+    }
+}
+
+/// Rules with sixteen counters of which one or two tell states apart, at each
+/// place, and the others stay "none": a flag within four frames, and a flag within
+/// four but not within three; and, by the last counter, a flag within 256 frames.
+fn every_counter(out: &mut Vec<SearchCase>) {
+    let within = |b| eventually(0, b, Formula::Flag(2));
+    let placed = |place: usize, own: Vec<Formula>| {
+        let mut parts = vec![not(eventually(0, 0, Formula::False)); MOST_TIMED - own.len()];
+        parts.splice(place..place, own);
+        all(parts)
+    };
+    for place in 0..MOST_TIMED {
+        let one = placed(place, vec![within(3)]);
+        out.push(enough(&and(one, Formula::False), place));
+    }
+    for place in 0..MOST_TIMED - 1 {
+        let two = placed(place, vec![within(3), not(within(2))]);
+        out.push(enough(&two, place));
+    }
+    let last = placed(MOST_TIMED - 1, vec![within(LARGEST_BOUND)]);
+    out.push(enough(&and(last, Formula::False), 0));
+}
+
+/// Rules in which two delay bits tell states apart, at each place; those before
+/// them stay 0.
+fn every_delay_bit(out: &mut Vec<SearchCase>) {
+    let later = || eventually(2, 2, Formula::Flag(1));
+    out.push(enough(&later(), 0));
+    for place in 1..=MOST_LOWER - 2 {
+        let before = not(eventually(place, place, Formula::False));
+        out.push(enough(&and(before.clone(), later()), place));
+        out.push(enough(&and(and(before, later()), Formula::False), place));
+    }
+}
+
+fn not(f: Formula) -> Formula {
+    Formula::Not(Box::new(f))
+}
+
+fn and(l: Formula, r: Formula) -> Formula {
+    Formula::And(Box::new(l), Box::new(r))
+}
+
+/// The "and" of some formulas, at least one.
+fn all(parts: Vec<Formula>) -> Formula {
+    parts.into_iter().reduce(and).expect("a part")
+}
+
+fn eventually(a: usize, b: usize, f: Formula) -> Formula {
+    Formula::Eventually(Window { a, b }, Box::new(f))
+}
+
+/// What is refused first, with both buffers long and short: the rule, 14 or 15;
+/// and damaged rules.
+fn refusals(random: &mut Random, out: &mut Vec<SearchCase>) {
+    for text in REFUSED {
+        for table in [0, 79, 80, 800] {
+            for witness in [0, 1, 9] {
+                for fill in FILLS {
+                    out.push(case(&bytes(text), table, witness, fill));
+                }
+            }
+        }
+    }
+    // 100,000 bytes, whose 65th item is refused.
+    let long = [&[0x10], &[0x20; 99_999][..]].concat();
+    out.push(case(&long, 800, 9, 0xff));
+    for _ in 0..500 {
+        let rule = damaged_rule(random);
+        // Where the damage leaves a rule, it may have any number of states.
+        let table = random.below(8 * RECORD);
+        let witness = (frames(&rule) + random.below(3)).saturating_sub(1);
+        out.push(case(&rule, table, witness, random.pick(&FILLS)));
+    }
+}
+
+/// A random formula with few or many items, small or large windows, and few or
+/// many flags.
+fn random_formula(random: &mut Random) -> Formula {
+    if random.once_in(20) {
+        return good_formula(random);
+    }
+    let mut budget = Budget {
+        timed: random.between(1, 6),
+        lower: random.pick(&[0, 2, 4, 8, 20, 60]),
+        bound: random.pick(&[1, 3, 6, 12, 40, LARGEST_BOUND]),
+        flag: random.pick(&[0, 0, 1, 1, 2, LARGEST_FLAG]),
+    };
+    let items = random.between(1, 14);
+    searched_formula(random, items, &mut budget)
+}
+
+/// The length of a table: just enough for so many states, a byte less, a little
+/// or much more, or anything less.
+fn random_table(random: &mut Random, states: usize) -> usize {
+    let enough = states * RECORD;
+    match random.below(10) {
+        0..=2 => enough,
+        3 | 4 => enough - 1,
+        5 => enough + random.below(RECORD),
+        6 => enough + random.below(20 * RECORD),
+        7 => random.between(0, enough),
+        8 => random.between(enough, 900 * RECORD),
+        _ => random.pick(&[0, 1, 79, 80, 159, 160, 65_536]),
+    }
+}
+
+/// One of the sizes: what is compared at most, and the states that are counted.
+fn random_size(random: &mut Random) -> (u64, usize) {
+    let mut left = random.below(1_000);
+    for (often, compared, states) in SIZES {
+        if left < often {
+            return (compared, states);
+        }
+        left -= often;
+    }
+    unreachable!("the sizes are a thousand");
+}
+
+/// A random rule of a random size, with a table that goes by its states and a
+/// witness buffer that is long enough, or now and then not.
+fn random_case(random: &mut Random) -> SearchCase {
+    let (most, states) = random_size(random);
+    // The larger sizes are not for small rules, as far as others come up.
+    let mut least = if most > 10_000 { most / 8 } else { 0 };
+    loop {
+        let f = random_formula(random);
+        let found = explored(&f, states).states;
+        // Only few have more states than are counted: there is no room for them.
+        if found > states && !random.once_in(4) {
+            continue;
+        }
+        let table = if found > states {
+            random.between(0, states * RECORD)
+        } else {
+            random_table(random, found)
+        };
+        let compared = explored(&f, room(table)).compared;
+        if compared < least || compared > most {
+            least -= least / 32;
+            continue;
+        }
+        let frames = f.horizon() + 1;
+        let witness = match random.below(32) {
+            0 => frames - 1,
+            1 => random.between(0, frames),
+            2..=5 => frames + 1,
+            6..=9 => frames + random.below(40),
+            _ => frames,
+        };
+        return case(&write(&f), table, witness, random.pick(&FILLS));
+    }
+}
+
+#[cfg(test)]
+mod tests {
+    use super::*;
+    use crate::meaning::verdicts;
+    use crate::search::{search, Answer};
+
+    /// The formula of a case that is searched: whose rule is not refused, nor 14.
+    fn searched(case: &SearchCase) -> Option<Formula> {
+        let rule = load(&case.rule).ok()?;
+        (case.witness as usize > rule.horizon).then_some(rule.formula)
+    }
+
+    #[test]
+    fn a_seed_fixes_the_list() {
+        let cases = search_cases(1);
+        assert_eq!(cases, search_cases(1));
+        assert_ne!(cases, search_cases(2));
+        assert!((14_000..15_000).contains(&cases.len()), "{}", cases.len());
+        let long = |case: &&SearchCase| case.table > 131_072;
+        assert_eq!(cases.iter().filter(long).count(), 11);
+        assert!(cases.iter().all(|case| case.witness < 4_200));
+        // What a walk through all records compares.
+        let compared = |case: &SearchCase| {
+            let f = searched(case)?;
+            Some(explored(&f, room(case.table as usize)).compared)
+        };
+        let sum: u64 = cases.iter().filter_map(compared).sum();
+        println!("{} cases compare {sum} records", cases.len());
+        assert!(sum < 600_000_000, "{sum}");
+    }
+
+    #[test]
+    fn rules_of_many_numbers_of_states_are_counted() {
+        let mut seen = Vec::new();
+        let mut met = 0;
+        for text in COUNTED {
+            let rule = load(&bytes(text)).unwrap();
+            let explored = explored(&rule.formula, usize::MAX);
+            seen.push(explored.states);
+            met += usize::from(explored.clip.is_some());
+        }
+        assert!(seen.is_sorted());
+        seen.dedup();
+        assert_eq!(
+            seen,
+            [1, 2, 3, 4, 7, 8, 12, 15, 32, 64, 100, 128, 256, 257, 271]
+        );
+        assert_eq!(met, 10);
+    }
+
+    #[test]
+    fn rules_are_refused_by_each_number() {
+        let number = |text: &&str| load(&bytes(text)).unwrap_err().number;
+        let mut numbers: Vec<u8> = REFUSED.iter().map(number).collect();
+        assert!(numbers.is_sorted());
+        numbers.dedup();
+        assert_eq!(numbers, [1, 2, 3, 4, 5, 6, 7, 8, 9]);
+    }
+
+    /// Where a count stands: 1, up to 4, up to 16, up to 64, or more.
+    fn size(count: usize) -> usize {
+        [1, 4, 16, 64].iter().filter(|&&most| count > most).count()
+    }
+
+    /// Each case is answered, and where no refusal comes before 15, once more by the
+    /// bytes of the rule's flags, with many more records than there are.
+    #[test]
+    fn rules_are_met_or_not_and_refused_in_each_way() {
+        let mut refused = [0; 17];
+        let (mut met, mut none) = ([0; 5], [0; 5]);
+        // Met although a state was found for which there is no room.
+        let mut full = 0;
+        for case in search_cases(1) {
+            let mut table = vec![case.fill; case.table as usize];
+            let mut witness = vec![case.fill; case.witness as usize];
+            let answer = search(&case.rule, &mut table, &mut witness);
+            if let Err(refusal) = answer {
+                refused[refusal.number as usize] += 1;
+            }
+            let Some(f) = searched(&case) else {
+                assert!(answer.is_err(), "{case:?}");
+                assert!(table.iter().all(|&byte| byte == case.fill), "{case:?}");
+                continue;
+            };
+            assert!(table.iter().all(|&byte| byte == 0), "{case:?}");
+            let room = room(table.len());
+            let explored = explored(&f, 2 * room);
+            let states = explored.states;
+            let left = match answer {
+                Ok(Answer::Met { length, .. }) => {
+                    assert_eq!(answer, Ok(Answer::Met { length, states }), "{case:?}");
+                    assert_eq!(explored.clip.as_deref(), Some(&witness[..length]));
+                    assert!(verdicts(&f, &witness[..length])[0], "{case:?}");
+                    met[size(length)] += 1;
+                    full += usize::from(length > 1 && states == room);
+                    &witness[length..]
+                }
+                Ok(Answer::None { .. }) => {
+                    assert_eq!(answer, Ok(Answer::None { states }), "{case:?}");
+                    assert_eq!(explored.clip, None, "{case:?}");
+                    none[size(states)] += 1;
+                    &witness
+                }
+                Err(refusal) => {
+                    assert_eq!((refusal.number, refusal.place), (15, 0), "{case:?}");
+                    assert!(states > room, "{case:?}");
+                    &witness
+                }
+            };
+            assert!(left.iter().all(|&byte| byte == case.fill), "{case:?}");
+        }
+        assert!(
+            refused[2..=9].iter().all(|&count| count > 100),
+            "{refused:?}"
+        );
+        assert!(refused[1] > 30 && refused[14] > 500 && refused[15] > 2_000);
+        assert!(met[0] > 1_000 && met[1] > 1_000 && met[2] > 300, "{met:?}");
+        assert!(none[..3].iter().all(|&count| count > 300), "{none:?}");
+        assert!(met[3] + met[4] > 20 && none[3] + none[4] > 100);
+        assert!(full > 500, "{full}");
+    }
+}
