@@ -7,13 +7,12 @@ use mathlib.Core.Logic.{inl, inr}
 use Prim.Native.Nat.{ℕ, _+_, _≤_}
 use native.Mathlib.Omega.{arith}
 use borrow.Author.Tests.{le-ltb}
-use lib.ListN.{length, take, drop, replicate}
+use lib.ListN.{length, take, replicate}
 use lib.Seq.{take-at, drop-at}
 use Rattle.reading.specs.Buffers.{over}
-use Rattle.reading.specs.declared.refusal.Refusal.{Refusal}
 use Rattle.reading.proofs.Buffers.{over-length}
 use Rattle.rules.specs.Formula.{Formula, horizon}
-use Rattle.rules.specs.Loading.{Items, accepted, readRule}
+use Rattle.rules.specs.Loading.{readRule}
 use Rattle.rules.specs.Meaning.{Holds}
 use Rattle.sequencer.specs.After.{stepsOver}
 use Rattle.emitter.specs.Translation.{codeFor}

@@ -1,7 +1,7 @@
 -- Exploring in the table. Registers and output go by steps, so the turns and ends of the search hold of the records: a state that is looked up is known or new by its registers, and
 -- storing a new one leaves those before it, and what they show, as they were.
 use mathlib.Core.Path.{_≡_, refl, sym, ap, subst, _∙_}
-use mathlib.Core.Bool.{true, false}
+use mathlib.Core.Bool.{Bool, true, false}
 use mathlib.Core.List.{List, [], _∷_, _++_}
 use Prim.Native.Nat.{ℕ, zero, suc, _+_, _*_, _≤_, _<_}
 use native.Mathlib.Omega.{arith}
@@ -18,7 +18,7 @@ use Rattle.sequencer.specs.declared.registers.Registers.{Registers}
 use Rattle.sequencer.proofs.After.{after-clip, after-output}
 use Rattle.sequencer.proofs.Counting.{good-lines}
 use Rattle.paths.specs.Answers.{none, noRoom, Right}
-use Rattle.paths.specs.Searching.{Stepwise, clipAt, frameBytes}
+use Rattle.paths.specs.Searching.{Stepwise, clipAt, frameBytes, Searching}
 use Rattle.paths.proofs.Clips.{length-more, at-more}
 use Rattle.paths.proofs.Turns.{begins, known-turn, new-turn, full-turn, next-state, next-length}
 use Rattle.paths.proofs.Ends.{ends-met, ends-none, ends-full}
@@ -30,7 +30,7 @@ use Rattle.finder.specs.declared.explore.Kept.{Kept}
 use Rattle.finder.specs.declared.table.Look.{Look}
 
 -- The output of a step is that of the clip with the frame in front
-output-step : (code : Code) → Good code → (x : ℕ) (c : Clip) → outputOf code (executed x code (start (stepsOver code c))) ≡ output code (x ∷ c)
+pub output-step : (code : Code) → Good code → (x : ℕ) (c : Clip) → outputOf code (executed x code (start (stepsOver code c))) ≡ output code (x ∷ c)
 output-step code good x c = rw (after-clip code good c) (after-output code (good-lines code good) x c)
 
 -- Registers and output go by steps
@@ -49,6 +49,12 @@ shows-kept before after n [] same h = rw (same n (omega arith)) h
 shows-kept before after n (x ∷ c) same h =
     let (frame, m, link, less, rest) = h in
     (rw (same n (omega arith)) frame, m, rw (same n (omega arith)) link, less, shows-kept before after m c (λ i l. same i (omega arith)) rest)
+
+-- The search moves on, and the records stay
+same-records : {code : Code} {room : ℕ} {table : List ℕ} {k b ended : ℕ} {kept : Kept} (e : Exploring code room table k b ended kept) {frames k′ b′ ended′ : ℕ} {full : Bool}
+    → Searching (stepsOver code) (Hits code) room (e .clips) frames k′ b′ ended′ full → Exploring code room table k′ b′ ended′ (record { stored = kept .stored; full = full })
+same-records e {frames = frames} s =
+    record { clips = e .clips; frames = frames; number = e .number; holds = e .holds; keeps = e .keeps; shows = e .shows; searching = s }
 
 -- A trial that does not satisfy
 module _ {code : Code} {room : ℕ} {table : List ℕ} {k b ended : ℕ} {kept : Kept} {r : Registers} (m : Misses code room table k b ended kept r) where
@@ -78,15 +84,7 @@ module _ {code : Code} {room : ℕ} {table : List ℕ} {k b ended : ℕ} {kept :
   known : (n : ℕ) → n < kept .stored → Keeps (recordAt table n) r → Exploring code room table k (b + 1) ended kept
   known n h keeps =
       let there : n < length (e .clips) = omega (arith, e .number) in
-      record {
-        clips = e .clips;
-        frames = e .frames;
-        number = e .number;
-        holds = e .holds;
-        keeps = e .keeps;
-        shows = e .shows;
-        searching = known-turn _ _ _ _ _ _ _ _ _ (e .searching) (m .more) (m .byte) missed n there (keeps-one _ _ _ (e .keeps n there) keeps ∙ led);
-      }
+      same-records e (known-turn _ _ _ _ _ _ _ _ _ (e .searching) (m .more) (m .byte) missed n there (keeps-one _ _ _ (e .keeps n there) keeps ∙ led))
 
   module _ (nowhere : (n : ℕ) → n < kept .stored → Keeps (recordAt table n) r → ⊥) where
     -- they are those of no stored state
@@ -96,15 +94,7 @@ module _ {code : Code} {room : ℕ} {table : List ℕ} {k b ended : ℕ} {kept :
     -- there is no record for them
     left-out : room ≤ kept .stored → Exploring code room table k (b + 1) ended (record { stored = kept .stored; full = true })
     left-out h =
-        record {
-          clips = e .clips;
-          frames = e .frames;
-          number = e .number;
-          holds = e .holds;
-          keeps = e .keeps;
-          shows = e .shows;
-          searching = full-turn _ _ _ _ _ _ _ _ _ (e .searching) (m .more) (m .byte) missed new (omega (arith, e .number));
-        }
+        same-records e (full-turn _ _ _ _ _ _ _ _ _ (e .searching) (m .more) (m .byte) missed new (omega (arith, e .number)))
 
     -- they are stored
     module _ (more : kept .stored < room) (after : List ℕ) (s : Stores table after (kept .stored) r (k + 1) b) where
@@ -159,28 +149,12 @@ module _ {code : Code} {room : ℕ} {table : List ℕ} {k b ended : ℕ} {kept :
   -- all bytes are tried with a state
   pub to-next-state : k < ended → b ≡ frameBytes → Exploring code room table (k + 1) 0 ended kept
   to-next-state more all =
-      record {
-        clips = e .clips;
-        frames = e .frames;
-        number = e .number;
-        holds = e .holds;
-        keeps = e .keeps;
-        shows = e .shows;
-        searching = next-state _ _ _ _ _ _ _ _ _ (e .searching) more all;
-      }
+      same-records e (next-state _ _ _ _ _ _ _ _ _ (e .searching) more all)
 
   -- all clips of a length are tried, and there are new states
   pub to-next-length : k ≡ ended → kept .full ≡ false → Exploring code room table k b (kept .stored) kept
   to-next-length done f =
-      record {
-        clips = e .clips;
-        frames = e .frames + 1;
-        number = e .number;
-        holds = e .holds;
-        keeps = e .keeps;
-        shows = e .shows;
-        searching = rw (← e .number) (next-length _ _ _ _ _ _ _ _ _ (e .searching) done f);
-      }
+      same-records e {frames = e .frames + 1} (rw (← e .number) (next-length _ _ _ _ _ _ _ _ _ (e .searching) done f))
 
   module _ (good : Good code) where
     -- a trial satisfies

@@ -89,7 +89,7 @@ module _ (numbers : List ℕ) (n : ℕ) (table witness : List ℕ) (room : ℕ) 
     answers-end End.NoRoom right tells = answered noRoom right (tells .0) (tells .1)
 
 -- A rule's code has the output 1 on just the clips that satisfy the rule
-hits-holds : (f : Formula) → Each InRange (postfix f) → (c : Clip) → Hits (codeFor f) c ↔ Holds f c
+pub hits-holds : (f : Formula) → Each InRange (postfix f) → (c : Clip) → Hits (codeFor f) c ↔ Holds f c
 hits-holds f ranges c =
     let e : output (codeFor f) c ≡ holds f c = ap (λ w. w c) (output-holds f ranges) in
     (λ h. agreement f c .0 (sym e ∙ h), λ h. e ∙ agreement f c .1 h)

@@ -7,3 +7,4 @@ pub mod Witness
 pub mod Finding
 pub mod Demand
 pub mod Unique
+pub mod Samples

@@ -30,6 +30,9 @@ size-is n = omega arith
 pub part-record : (table : List ℕ) (n : ℕ) → midOf (startOf n) (sizeOf n) table ≡ recordAt table n
 part-record table n = rw (size-is n)
 
+pub record-length : (table : List ℕ) (n : ℕ) → (n + 1) * limits .record_bytes ≤ length table → length (recordAt table n) ≡ limits .record_bytes
+record-length table n h = length-take-le (limits .record_bytes) (drop (startOf n) table) (omega (arith, length-drop (startOf n) table))
+
 -- No one of the first records has the key's bytes
 pub record Missed (table key : List ℕ) (n : ℕ) : Type 0 where
   pub each : (m : ℕ) → m < n → SameKey (recordAt table m) key false

@@ -5,3 +5,4 @@ pub mod Records
 pub mod Tables
 pub mod Exploring
 pub mod Searches
+pub mod Samples

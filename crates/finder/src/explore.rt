@@ -3,9 +3,10 @@ ghost use mathlib.Core.Path.{_≡_};
 ghost use lib.ListN.{length};
 ghost use Rattle.sequencer.specs.Programs.{codeIn};
 ghost use Rattle.finder.specs.Exploring.{CanKeep, Keeping, Tries, TriedTo, Ready, Ends};
+use crate::record::registers_of;
 use crate::table::Look;
 use crate::table::find;
-use crate::table::registers_at;
+use crate::table::record_at;
 use crate::table::store;
 use sequencer::registers::Registers;
 
@@ -84,7 +85,7 @@ fn try_length(
     let mut tried = 0;
     let mut state = first;
     'all: while state < ended {
-        let registers = registers_at(&table[..], state);
+        let registers = registers_of(record_at(&table[..], state));
         for frame in 0..=255u8 {
             let trial = registers.advance(numbers, count, frame);
             if trial.bit {

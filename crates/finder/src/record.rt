@@ -79,12 +79,12 @@ pub(crate) fn same_key(bytes: &[u8], key: &[u8]) -> bool
     requires { ⌜ (keyBytes ≤ length (now bytes)) × (keyBytes ≤ length (now key)) ⌝ }
     ensures { λ r. ⌜ SameKey (now (bytes .entry)) (now (key .entry)) r ⌝ }
 {
-    let mut j = 0;
-    while j < KEY {
-        if bytes[j] != key[j] {
+    let mut at = 0;
+    while at < KEY {
+        if bytes[at] != key[at] {
             return false;
         }
-        j += 1;
+        at += 1;
     }
     true
 }

@@ -6,9 +6,10 @@ ghost use Rattle.finder.specs.Finding.{Answers, SearchSays};
 ghost use Rattle.finder.specs.Searches.{CanShow, Showing, CanTell, Tells, CanSearch, Searchable, RuleAnswers};
 use crate::explore::End;
 use crate::explore::explore;
+use crate::record::frame_of;
+use crate::record::link_of;
 use crate::table::clear;
-use crate::table::frame_at;
-use crate::table::link_at;
+use crate::table::record_at;
 use crate::table::room_of;
 use emitter::emit::Emitted;
 use emitter::emit::MOST_CODE;
@@ -32,12 +33,12 @@ fn write_witness(table: &[u8], state: usize, frame: u8, witness: &mut [u8]) -> u
     witness[0] = frame;
     let mut length = 1;
     let mut at = state;
-    let mut link = link_at(table, at);
+    let mut link = link_of(record_at(table, at));
     while link != 0 {
-        witness[length] = frame_at(table, at);
+        witness[length] = frame_of(record_at(table, at));
         length += 1;
         at = link - 1;
-        link = link_at(table, at);
+        link = link_of(record_at(table, at));
     }
     length
 }

@@ -3,12 +3,9 @@ ghost use mathlib.Core.Path.{_≡_};
 ghost use Prim.Native.Nat.{_+_, _*_, _≤_, _<_};
 ghost use lib.ListN.{length, replicate};
 ghost use Rattle.reading.specs.Limits.{limits};
-ghost use Rattle.finder.specs.Records.{KeptBy, recordAt, linkIn, frameIn, roomOf};
+ghost use Rattle.finder.specs.Records.{recordAt, roomOf};
 ghost use Rattle.finder.specs.Tables.{Looks, Stores};
 use crate::record::KEY;
-use crate::record::frame_of;
-use crate::record::link_of;
-use crate::record::registers_of;
 use crate::record::same_key;
 use crate::record::write_key;
 use crate::record::write_record;
@@ -33,6 +30,15 @@ pub(crate) fn room_of(table: &[u8]) -> usize
     MOST_RECORDS
 }
 
+// A record of a table, by its number.
+pub(crate) fn record_at(table: &[u8], n: usize) -> &[u8]
+    requires { ⌜ (n + 1) * limits .record_bytes ≤ length (now table) ⌝ }
+    ensures { λ r. ⌜ now r ≡ recordAt (now (table .entry)) n ⌝ }
+{
+    let base = n * RECORD;
+    &table[base..base + RECORD]
+}
+
 // Looks registers up among the first records.
 pub(crate) fn find(table: &[u8], stored: usize, registers: Registers) -> Look
     requires { ⌜ stored * limits .record_bytes ≤ length (now table) ⌝ }
@@ -42,40 +48,12 @@ pub(crate) fn find(table: &[u8], stored: usize, registers: Registers) -> Look
     write_key(registers, &mut key);
     let mut n = 0;
     while n < stored {
-        let base = n * RECORD;
-        if same_key(&table[base..base + RECORD], &key) {
+        if same_key(record_at(table, n), &key) {
             return Look::At(n);
         }
         n += 1;
     }
     Look::Nowhere
-}
-
-// The registers that a record of a table keeps.
-pub(crate) fn registers_at(table: &[u8], n: usize) -> Registers
-    requires { ⌜ (n + 1) * limits .record_bytes ≤ length (now table) ⌝ }
-    ensures { λ r. ⌜ KeptBy (recordAt (now (table .entry)) n) r ⌝ }
-{
-    let base = n * RECORD;
-    registers_of(&table[base..base + RECORD])
-}
-
-// The link of a record of a table.
-pub(crate) fn link_at(table: &[u8], n: usize) -> usize
-    requires { ⌜ (n + 1) * limits .record_bytes ≤ length (now table) ⌝ }
-    ensures { λ r. ⌜ r ≡ linkIn (recordAt (now (table .entry)) n) ⌝ }
-{
-    let base = n * RECORD;
-    link_of(&table[base..base + RECORD])
-}
-
-// The frame byte of a record of a table.
-pub(crate) fn frame_at(table: &[u8], n: usize) -> u8
-    requires { ⌜ (n + 1) * limits .record_bytes ≤ length (now table) ⌝ }
-    ensures { λ r. ⌜ r ≡ frameIn (recordAt (now (table .entry)) n) ⌝ }
-{
-    let base = n * RECORD;
-    frame_of(&table[base..base + RECORD])
 }
 
 // Stores a state as the record of a number.

@@ -51,7 +51,7 @@ module _ {S : Type 0} (state : Clip → S) (Meets : Clip → Type 0) (room : ℕ
       record {
         clips = [] ∷ [];
         more = omega arith;
-        distinct = record { short = (record { bytes = λ i. omega arith; shorter = λ d t. t .some }, tt); different = λ i j l m. absurd (omega arith) };
+        distinct = record { short = (record { bytes = λ i. omega arith; shorter = λ d t. omega (arith, t .some) }, tt); different = λ i j l m. absurd (omega arith) };
       }
 
   module _ (steps : Stepwise state Meets) (clips : List Clip) (frames k b ended : ℕ) (full : Bool) (s : Searching state Meets room clips frames k b ended full) where
@@ -110,8 +110,9 @@ module _ {S : Type 0} (state : Clip → S) (Meets : Clip → Type 0) (room : ℕ
           clips = take ended clips;
           number = n;
           distinct = record {
-            short = each-of (Short Meets) (take ended clips) [] λ i l. rw (at i (omega arith))
-                (record { bytes = s .bytes i (omega arith); shorter = shorter i (omega arith) });
+            short = each-of (Short Meets) (take ended clips) [] λ i l.
+                let m : i < ended = omega arith in
+                rw (at i m) (record { bytes = s .bytes i (omega arith); shorter = λ d t. omega (arith, shorter i m d t) });
             different = λ i j l m. rw (at i (omega arith), at j (omega arith)) (s .different i j l (omega arith));
           };
           all = λ c h. let (r, l) = all c h in (r .number, l, rw (at (r .number) l) (r .same));

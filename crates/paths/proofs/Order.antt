@@ -17,38 +17,6 @@ pub record Earlier (u v : Clip) : Type 0 where
   pub behind : drop (place + 1) u ≡ drop (place + 1) v
   pub smaller : getD u place 0 < getD v place 0
 
-pub less-not : (u : Clip) → Less u u → ⊥
-unfolding Less
-less-not [] h = h
-less-not (b ∷ u) (inl h) = less-not u h
-less-not (b ∷ u) (inr h) = omega arith
-
-pub less-trans : (u v w : Clip) → Less u v → Less v w → Less u w
-unfolding Less
-less-trans [] [] w h k = absurd h
-less-trans [] (d ∷ v) [] h k = absurd k
-less-trans [] (d ∷ v) (e ∷ w) h k = tt
-less-trans (b ∷ u) [] w h k = absurd h
-less-trans (b ∷ u) (d ∷ v) [] h k = absurd k
-less-trans (b ∷ u) (d ∷ v) (e ∷ w) (inl h) (inl k) = inl (less-trans u v w h k)
-less-trans (b ∷ u) (d ∷ v) (e ∷ w) (inl h) (inr k) = inl (rw (k .0) at h)
-less-trans (b ∷ u) (d ∷ v) (e ∷ w) (inr h) (inl k) = inl (rw (h .0) k)
-less-trans (b ∷ u) (d ∷ v) (e ∷ w) (inr h) (inr k) = inr (h .0 ∙ k .0, omega arith)
-
-pub less-or : (u v : Clip) → (Less u v ⊎ (u ≡ v)) ⊎ Less v u
-unfolding Less
-less-or [] [] = inl (inr refl)
-less-or [] (d ∷ v) = inl (inl tt)
-less-or (b ∷ u) [] = inr tt
-less-or (b ∷ u) (d ∷ v) = go (less-or u v)
-  where
-    go : (Less u v ⊎ (u ≡ v)) ⊎ Less v u → ((Less u v ⊎ ((u ≡ v) × (b < d))) ⊎ (_≡_ {A = Clip} (b ∷ u) (d ∷ v))) ⊎ (Less v u ⊎ ((v ≡ u) × (d < b)))
-    go (inl (inl h)) = inl (inl (inl h))
-    go (inl (inr e)) =
-        by-cases (decLt b d) (λ lt. inl (inl (inr (e, lt)))) λ ge. by-cases (decLt d b) (λ gt. inr (inr (sym e, gt))) λ le.
-        let same : b ≡ d = omega arith in inl (inr cc)
-    go (inr h) = inr (inl h)
-
 pub shorter-less : (u v : Clip) → length u < length v → Less u v
 unfolding Less
 shorter-less [] [] h = omega arith
@@ -85,3 +53,37 @@ earlier-less (b ∷ u) (d ∷ v) (suc p) e i h k = inl (earlier-less u v p (omeg
 -- Shorter, or as long and the first when frames are compared from the last backwards
 pub less-says : (u v : Clip) → Less u v ↔ ((length u < length v) ⊎ ((length u ≡ length v) × Earlier u v))
 less-says u v = (less-earlier u v, ⊎-elim (shorter-less u v) λ h. earlier-less u v (h .1 .place) (h .0) (h .1 .inside) (h .1 .behind) (h .1 .smaller))
+
+-- A strict total order
+
+pub less-not : (u : Clip) → Less u u → ⊥
+unfolding Less
+less-not [] h = h
+less-not (b ∷ u) (inl h) = less-not u h
+less-not (b ∷ u) (inr h) = omega arith
+
+pub less-trans : (u v w : Clip) → Less u v → Less v w → Less u w
+unfolding Less
+less-trans [] [] w h k = absurd h
+less-trans [] (d ∷ v) [] h k = absurd k
+less-trans [] (d ∷ v) (e ∷ w) h k = tt
+less-trans (b ∷ u) [] w h k = absurd h
+less-trans (b ∷ u) (d ∷ v) [] h k = absurd k
+less-trans (b ∷ u) (d ∷ v) (e ∷ w) (inl h) (inl k) = inl (less-trans u v w h k)
+less-trans (b ∷ u) (d ∷ v) (e ∷ w) (inl h) (inr k) = inl (rw (k .0) at h)
+less-trans (b ∷ u) (d ∷ v) (e ∷ w) (inr h) (inl k) = inl (rw (h .0) k)
+less-trans (b ∷ u) (d ∷ v) (e ∷ w) (inr h) (inr k) = inr (h .0 ∙ k .0, omega arith)
+
+pub less-or : (u v : Clip) → (Less u v ⊎ (u ≡ v)) ⊎ Less v u
+unfolding Less
+less-or [] [] = inl (inr refl)
+less-or [] (d ∷ v) = inl (inl tt)
+less-or (b ∷ u) [] = inr tt
+less-or (b ∷ u) (d ∷ v) = go (less-or u v)
+  where
+    go : (Less u v ⊎ (u ≡ v)) ⊎ Less v u → ((Less u v ⊎ ((u ≡ v) × (b < d))) ⊎ (_≡_ {A = Clip} (b ∷ u) (d ∷ v))) ⊎ (Less v u ⊎ ((v ≡ u) × (d < b)))
+    go (inl (inl h)) = inl (inl (inl h))
+    go (inl (inr e)) =
+        by-cases (decLt b d) (λ lt. inl (inl (inr (e, lt)))) λ ge. by-cases (decLt d b) (λ gt. inr (inr (sym e, gt))) λ le.
+        let same : b ≡ d = omega arith in inl (inr cc)
+    go (inr h) = inr (inl h)

@@ -4,6 +4,7 @@ use mathlib.Core.Path.{_≡_, sym, _∙_}
 use Rattle.reading.proofs.item.read_item.Reads as read-item
 use Rattle.reading.proofs.limits.all.Reads as all
 use Rattle.reading.proofs.number.read_number.Reads as read-number
+use Rattle.reading.proofs.number.wide.Reads as wide
 use Rattle.reading.proofs.number.write_number.Reads as write-number
 use Rattle.reading.proofs.refusal.number.Reads as number
 use Rattle.reading.proofs.refusal.place.Reads as place
@@ -13,6 +14,9 @@ read-item-unique κs a r s x y p q = cc
 
 pub all-unique : (κs : _) (a : _) (r s : _) (x y : _) → all.Post κs a r x → all.Post κs a s y → r ≡ s
 all-unique κs a r s x y p q = cc
+
+pub wide-unique : (κs : _) (a : _) (r s : _) (x y : _) → wide.Post κs a r x → wide.Post κs a s y → r ≡ s
+wide-unique κs a r s x y p q = p .0 ∙ sym (q .0)
 
 pub read-number-unique : (κs : _) (a : _) (r s : _) (x y : _) → read-number.Post κs a r x → read-number.Post κs a s y → r ≡ s
 read-number-unique κs a r s x y p q = cc

@@ -1,11 +1,13 @@
 -- `try_length` meets its contract. The outer loop's invariant is `States`, the inner one's `Bytes`; the measures are the states and the bytes that are not tried yet. The way out by the label has
 -- a trial that satisfies.
-use mathlib.Core.Path.{refl, _∙_}
+use mathlib.Core.Path.{refl, ap, _∙_}
 use mathlib.Core.Logic.{inl, inr}
 use Prim.Native.Nat.{_-_, _<_}
 use native.Mathlib.Omega.{arith}
+use lib.ListN.{length}
 use Rattle.paths.specs.Searching.{frameBytes}
 use Rattle.finder.proofs.Exploring.{state-fits}
+use Rattle.finder.proofs.Tables.{record-length}
 use Rattle.finder.proofs.Trying.{States, Bytes, states-first, bytes-first, misses, bytes-more, bytes-met, states-more, states-all}
 use Rattle.finder.proofs.explore.try_length.Statement.{statement}
 use Rattle.finder.proofs.explore.try_length.Tie as tie
@@ -28,11 +30,16 @@ abbrev μ-all : tie.MeasureT-all
 all-holds : tie.Need-all-holds Inv-loop μ-loop Inv-all μ-all
 all-holds c = states-first _ _ _ _ _ _ _ (c .before .before .pre)
 
-registers-at-requires : tie.Need-registers-at-requires Inv-loop μ-loop Inv-all μ-all
-registers-at-requires c κs = state-fits (c .before .before .all .inv .exploring) (c .before .all-test .taken)
+record-at-requires : tie.Need-record-at-requires Inv-loop μ-loop Inv-all μ-all
+record-at-requires c κs = state-fits (c .before .before .all .inv .exploring) (c .before .all-test .taken)
+
+registers-of-requires : tie.Need-registers-of-requires Inv-loop μ-loop Inv-all μ-all
+registers-of-requires c κs =
+    let long = ap length (c .record-at .ensures) ∙ record-length (c .before .before .before .all .table) (c .before .before .before .all .state) (record-at-requires (c .before) κs) in
+    omega (arith, long)
 
 loop-holds : tie.Need-loop-holds Inv-loop μ-loop Inv-all μ-all
-loop-holds c = (bytes-first _ _ _ _ _ _ _ _ _ (c .before .before .before .all .inv) (c .before .before .all-test .taken) _ (c .registers-at .ensures), omega arith)
+loop-holds c = (bytes-first _ _ _ _ _ _ _ _ _ (c .before .before .before .before .all .inv) (c .before .before .before .all-test .taken) _ (rw (c .before .record-at .ensures) at (c .registers-of .ensures)), omega arith)
 
 advance-requires : tie.Need-advance-requires Inv-loop μ-loop Inv-all μ-all
 advance-requires c κs = c .before .loop .inv .0 .sound
@@ -51,9 +58,9 @@ loop-again c = (bytes-more _ _ _ _ (c .before .before .before .before .before .b
 
 -- all bytes are tried with a state: the last one is 255
 all-bytes : (c : tie.Left-loop Inv-loop μ-loop Inv-all μ-all)
-    → let start = c .before .before .before .before .before .before .before .before in
-    let state = c .before .before .before .before .before in
-    Bytes (start .args .numbers .now) (start .args .count) (start .args .room) (start .args .ended) (c .before .before .registers-at .result) (state .all .table) (c .loop-test .table) (state .all .state) frameBytes (c .loop-test .kept) (c .before .loop .hit)
+    → let start = c .before .before .before .before .before .before .before .before .before in
+    let state = c .before .before .before .before .before .before in
+    Bytes (start .args .numbers .now) (start .args .count) (start .args .room) (start .args .ended) (c .before .before .registers-of .result) (state .all .table) (c .loop-test .table) (state .all .state) frameBytes (c .loop-test .kept) (c .before .loop .hit)
 all-bytes c = elim (c .loop-test .came) [ inl x ↦ absurd (omega (arith, x .0 .left, c .before .loop .inv .1)) | inr x ↦ rw (x .8, x .9) (bytes-more _ _ _ _ (c .before .loop .inv .0) (c .before .loop .inv .1) _ (x .1 .ensures) (x .2 .left) _ _ (x .5 .given) (x .4 .ensures) _ (omega (arith, x .7 .left, c .before .loop .inv .1))) ]
 
 add-state : tie.Need-add-state Inv-loop μ-loop Inv-all μ-all
@@ -63,7 +70,7 @@ all-less : tie.Need-all-less Inv-loop μ-loop Inv-all μ-all
 all-less c = omega (arith, c .before .loop .inv .0 .more)
 
 all-again : tie.Need-all-again Inv-loop μ-loop Inv-all μ-all
-all-again c = states-more _ _ _ _ _ _ _ _ _ _ _ _ (c .before .before .before .before .before .all .inv .same) (all-bytes c) refl
+all-again c = states-more _ _ _ _ _ _ _ _ _ _ _ _ (c .before .before .before .before .before .before .all .inv .same) (all-bytes c) refl
 
 same-length : tie.Need-same-length Inv-loop μ-loop Inv-all μ-all
 same-length c = c .before .all .inv .same
@@ -72,7 +79,7 @@ returns : tie.Need-returns Inv-loop μ-loop Inv-all μ-all
 returns c = (c .before .all .inv .same, states-all _ _ _ _ _ _ _ _ _ _ (c .before .all .inv) (c .all-test .left))
 
 same-length-2 : tie.Need-same-length-2 Inv-loop μ-loop Inv-all μ-all
-same-length-2 c = c .before .before .before .loop .inv .0 .same ∙ c .before .before .before .before .before .before .before .all .inv .same
+same-length-2 c = c .before .before .before .loop .inv .0 .same ∙ c .before .before .before .before .before .before .before .before .all .inv .same
 
 returns-2 : tie.Need-returns-2 Inv-loop μ-loop Inv-all μ-all
 returns-2 c = (same-length-2 c, bytes-met _ _ _ _ (c .before .before .before .loop .inv .0) (c .before .before .before .loop .inv .1) _ (c .before .advance .ensures) (c .if1 .taken))
@@ -86,7 +93,8 @@ try-length-spec =
     Inv-all
     μ-all
     all-holds
-    registers-at-requires
+    record-at-requires
+    registers-of-requires
     loop-holds
     advance-requires
     keep-requires

@@ -9,10 +9,10 @@ use Rattle.finder.proofs.record.same_key.Statement.{statement}
 use Rattle.finder.proofs.record.same_key.Tie as tie
 
 abbrev Inv-loop : tie.InvT-loop
-Inv-loop bytes key j₀ j = (i : ℕ) → i < j → getD bytes i 0 ≡ getD key i 0
+Inv-loop bytes key at₀ at = (i : ℕ) → i < at → getD bytes i 0 ≡ getD key i 0
 
 abbrev μ-loop : tie.MeasureT-loop
-μ-loop bytes key j₀ j = keyBytes - j
+μ-loop bytes key at₀ at = keyBytes - at
 
 loop-holds : tie.Need-loop-holds Inv-loop μ-loop
 loop-holds c = λ i h. absurd (omega arith)
@@ -26,8 +26,8 @@ shared-slice-read-if1-2 c = omega arith
 returns : tie.Need-returns Inv-loop μ-loop
 returns c = λ same. c .if1 .taken (same _ (omega arith))
 
-add-j : tie.Need-add-j Inv-loop μ-loop
-add-j c = omega arith
+add-at : tie.Need-add-at Inv-loop μ-loop
+add-at c = omega arith
 
 loop-less : tie.Need-loop-less Inv-loop μ-loop
 loop-less c = omega arith
@@ -48,7 +48,7 @@ same-key-spec =
     shared-slice-read-if1
     shared-slice-read-if1-2
     returns
-    add-j
+    add-at
     loop-less
     loop-again
     returns-2)

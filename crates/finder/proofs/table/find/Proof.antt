@@ -2,8 +2,9 @@
 use borrow.Author.Needs.{needs}
 use Prim.Native.Nat.{_-_, _≤_}
 use native.Mathlib.Omega.{arith}
-use mathlib.Core.Path.{refl}
-use Rattle.finder.proofs.Tables.{part-record, Missed, missed-none, missed-more, looks-at, looks-nowhere}
+use mathlib.Core.Path.{refl, ap, _∙_}
+use lib.ListN.{length}
+use Rattle.finder.proofs.Tables.{record-length, Missed, missed-none, missed-more, looks-at, looks-nowhere}
 use Rattle.finder.proofs.table.find.Statement.{statement}
 use Rattle.finder.proofs.table.find.Tie as tie
 
@@ -22,30 +23,20 @@ write-key-requires c κs = omega arith
 loop-holds : tie.Need-loop-holds Inv-loop μ-loop
 loop-holds c = (omega arith, missed-none _ _)
 
-mul-base : tie.Need-mul-base Inv-loop μ-loop
-mul-base c = omega arith
-
-add-same-key : tie.Need-add-same-key Inv-loop μ-loop
-add-same-key c = omega arith
-
-sub-same-key : tie.Need-sub-same-key Inv-loop μ-loop
-sub-same-key c = omega arith
-
-part-same-key-start : tie.Need-part-same-key-start Inv-loop μ-loop
-part-same-key-start c = omega arith
-
-part-same-key-end : tie.Need-part-same-key-end Inv-loop μ-loop
-part-same-key-end c = omega arith
+record-at-requires : tie.Need-record-at-requires Inv-loop μ-loop
+record-at-requires c κs = omega arith
 
 slice-aggregate-same-key : tie.Need-slice-aggregate-same-key Inv-loop μ-loop
 slice-aggregate-same-key c = search needs
 
 same-key-requires : tie.Need-same-key-requires Inv-loop μ-loop
-same-key-requires c κs = omega arith
+same-key-requires c κs =
+    let long = ap length (c .before .record-at .ensures) ∙ record-length (c .before .before .before .before .before .before .before .before .args .table .now) (c .before .before .before .loop .n) (omega arith) in
+    (omega (arith, long), omega arith)
 
 returns : tie.Need-returns Inv-loop μ-loop
 returns c = let l = c .before .before .before .before .before in
-    let e = rw (part-record, c .if1 .taken) at (c .before .same-key .ensures) in
+    let e = rw (c .before .before .before .record-at .ensures, c .if1 .taken) at (c .before .same-key .ensures) in
     looks-at _ _ _ _ (l .before .before .write-key .ensures .keeps) _ (omega arith) e
 
 add-n : tie.Need-add-n Inv-loop μ-loop
@@ -56,7 +47,7 @@ loop-less c = omega arith
 
 loop-again : tie.Need-loop-again Inv-loop μ-loop
 loop-again c = let l = c .before .before .before .before .before in
-    let e = rw (part-record, c .if1 .left) at (c .before .same-key .ensures) in
+    let e = rw (c .before .before .before .record-at .ensures, c .if1 .left) at (c .before .same-key .ensures) in
     (omega arith, missed-more _ _ _ (l .loop .inv .1) e)
 
 returns-2 : tie.Need-returns-2 Inv-loop μ-loop
@@ -71,11 +62,7 @@ find-spec =
     slice-aggregate-write-key
     write-key-requires
     loop-holds
-    mul-base
-    add-same-key
-    sub-same-key
-    part-same-key-start
-    part-same-key-end
+    record-at-requires
     slice-aggregate-same-key
     same-key-requires
     returns
