@@ -1,6 +1,6 @@
 -- `emit` past its tests. A rule that is loaded and accepted has the items of one formula, each of which can be emitted behind those before it within the limits; so the code that its
 -- items make in order is the code of that formula, which is what the definition says.
-use mathlib.Core.Path.{_≡_, refl, sym, ap, _∙_}
+use mathlib.Core.Path.{_≡_, sym, ap, _∙_}
 use mathlib.Core.Bool.{Bool, cond}
 use mathlib.Core.List.{List, [], _∷_, _++_, append-nil}
 use Prim.Native.Nat.{ℕ, suc, _+_, _*_, _≤_, _<_}
@@ -17,11 +17,11 @@ use Rattle.reading.proofs.Choices.{else-taken}
 use Rattle.rules.specs.Accepted.{IsRule}
 use Rattle.rules.specs.Formula.{Formula}
 use Rattle.rules.specs.Good.{InRange, postfix}
-use Rattle.rules.specs.Loading.{Items, Reading, accepted, refused, readRule, loadedOf, ruleOf, stackFrom, stackOf, timedIn}
+use Rattle.rules.specs.Loading.{Items, Reading, accepted, refused, readRule, ruleOf, stackFrom, stackOf, timedIn}
 use Rattle.rules.specs.declared.item.Item.{Item}
 use Rattle.rules.specs.declared.load.Loaded.{Loaded}
 use Rattle.rules.specs.declared.load.Rule.{Rule}
-use Rattle.rules.proofs.Accepted.{accepted-rule, made}
+use Rattle.rules.proofs.Accepted.{accepted-rule, made, loaded-accepted, loaded-refused}
 use Rattle.rules.proofs.Prefixes.{values-few, operands-there, whole-prefix}
 use Rattle.rules.proofs.Stack.{timed-append}
 use Rattle.sequencer.specs.Code.{bytesOf}
@@ -42,14 +42,10 @@ pub record Accepts (bytes : List ℕ) (rule : Rule) (n : ℕ) : Type 0 where
   pub own : rule ≡ ruleOf (accepted items formula)
   pub many : n ≡ length items
 
-loaded-accepted : (read : Reading) (n h : ℕ) → Loaded.Accepted n h ≡ loadedOf read → (is : Items) × (f : Formula) × (read ≡ accepted is f) × (n ≡ length is)
-loaded-accepted (accepted is f) n h e = (is, f, refl, cc)
-loaded-accepted (refused r) n h e = absurd (let z : _≡_ {A = ℕ} 0 1 = cc in omega arith)
-
 pub accepts : (bytes : List ℕ) (rule : Rule) (n h : ℕ) → AllBytes bytes → rule ≡ ruleOf (readRule bytes) → Loaded.Accepted n h ≡ rule .loaded → Accepts bytes rule n
 unfolding ruleOf
 accepts bytes rule n h small own e =
-    let (is, f, read, many) = loaded-accepted (readRule bytes) n h (e ∙ ap (λ r. r .loaded) own) in
+    let (is, f, read, many, near) = loaded-accepted (readRule bytes) n h (e ∙ ap (λ r. r .loaded) own) in
     record {
       items = is;
       formula = f;
@@ -156,10 +152,6 @@ module _ (bytes : List ℕ) (rule : Rule) (n : ℕ) (a : Accepts bytes rule n) w
         answer-bytes after e = e ∙ rw (first-part, a .read, take-length)
 
 -- a rule that is refused
-loaded-refused : (read : Reading) (r : Refusal) → Loaded.Refused r ≡ loadedOf read → read ≡ refused r
-loaded-refused (accepted is f) r e = absurd (let z : _≡_ {A = ℕ} 0 1 = cc in omega arith)
-loaded-refused (refused s) r e = cc
-
 pub answer-refused : (bytes out : List ℕ) (rule : Rule) (r : Refusal) → rule ≡ ruleOf (readRule bytes) → Loaded.Refused r ≡ rule .loaded → Emitted.Refused r ≡ emittedOf (readRule bytes) out
 unfolding ruleOf
 answer-refused bytes out rule r own e = let is = loaded-refused (readRule bytes) r (e ∙ ap (λ x. x .loaded) own) in rw is

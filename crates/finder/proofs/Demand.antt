@@ -1,9 +1,8 @@
 -- Demand 2. What `search` says of an accepted rule is a right answer in the paper's meaning, and of the three kinds of answer only one is right: so "no room" and "none" come exactly
 -- where the demand has them. The first clip that satisfies has at most horizon + 1 frames, so it stands within the witness buffer.
-use mathlib.Core.Path.{_≡_, refl, ap, subst, _∙_}
+use mathlib.Core.Path.{_≡_, refl, ap}
 use mathlib.Core.Bool.{false}
 use mathlib.Core.List.{List}
-use mathlib.Core.Logic.{inl, inr}
 use Prim.Native.Nat.{ℕ, _+_, _≤_}
 use native.Mathlib.Omega.{arith}
 use borrow.Author.Tests.{le-ltb}
@@ -18,9 +17,8 @@ use Rattle.sequencer.specs.After.{stepsOver}
 use Rattle.emitter.specs.Translation.{codeFor}
 use Rattle.paths.specs.Answers.{Answer, met, none, noRoom, Right}
 use Rattle.paths.proofs.Counting.{not-within}
-use Rattle.finder.specs.Demand.{States, Shown, Demanded, DemandTwo}
-use Rattle.finder.specs.Finding.{foundOf, witnessAfter, Answers, shortWitness, SearchSays}
-use Rattle.finder.specs.Records.{roomOf}
+use Rattle.finder.specs.Demand.{Demanded, DemandTwo}
+use Rattle.finder.specs.Finding.{roomOf, foundOf, witnessAfter, Answers, shortWitness, SearchSays}
 use Rattle.finder.specs.declared.search.Found.{Found}
 use Rattle.finder.proofs.Finding.{first-short}
 use Rattle.finder.proofs.search.search.Reads as search
@@ -33,38 +31,39 @@ module _ (f : Formula) (table witness : List ℕ) (room : horizon f + 1 ≤ leng
   demanded : (answer : Answer) → Right (stepsOver (codeFor f)) (Holds f) (roomOf table) answer
       → Demanded f table witness (foundOf answer) (replicate (length table) 0) (witnessAfter answer witness)
   demanded (met c n) (first, count, within) =
+      let own : take (length c) (over c witness) ≡ c = take-at c _ (length c) refl in
       record {
+        refuses = λ refusal e. absurd (let z : _≡_ {A = ℕ} 0 1 = cc in omega arith);
         no-room = (λ e. absurd (let z : _≡_ {A = ℕ} 0 1 = cc in omega arith), λ more. absurd (not-within _ _ n _ count within more));
-        never = λ _. (λ e. absurd (let z : _≡_ {A = ℕ} 0 1 = cc (e .1) in omega arith), λ no. absurd (no c (first .satisfying)));
-        one = inr (inr (length c, n, refl));
-        met = λ l m e. shown l m (cc e) (cc e);
-        none = λ m e. absurd (let z : _≡_ {A = ℕ} 0 1 = cc in omega arith);
-        full = λ e. absurd (let z : _≡_ {A = ℕ} 0 1 = cc in omega arith);
+        none = λ _. (λ e. absurd (let z : _≡_ {A = ℕ} 0 1 = cc in omega arith), λ never. absurd (never c (first .satisfying)));
+        states = λ _. count;
+        shown = λ _. record {
+          first = rw own first;
+          long = ap length own;
+          rest = drop-at c _ (length c) refl;
+          same = over-length c witness (omega (arith, first-short f c first));
+        };
+        not-shown = λ e. absurd (let z : _≡_ {A = ℕ} 0 1 = cc in omega arith);
         zero = refl;
       }
-    where
-      shown : (l m : ℕ) → length c ≡ l → n ≡ m → Shown f l witness (over c witness) × States f m
-      shown l m e i =
-          let own : take l (over c witness) ≡ c = take-at c _ l e in
-          (record { first = rw own first; long = ap length own ∙ e; rest = drop-at c _ l e ∙ rw e; same = over-length c witness (omega (arith, first-short f c first)) }, rw (← i) count)
   demanded (none n) (never, count, within) =
       record {
+        refuses = λ refusal e. absurd (let z : _≡_ {A = ℕ} 0 1 = cc in omega arith);
         no-room = (λ e. absurd (let z : _≡_ {A = ℕ} 0 1 = cc in omega arith), λ more. absurd (not-within _ _ n _ count within more));
-        never = λ _. (λ e. never, λ _. (n, refl));
-        one = inr (inl (n, refl));
-        met = λ l m e. absurd (let z : _≡_ {A = ℕ} 0 1 = cc in omega arith);
-        none = λ m e. (refl, subst (States f) (cc e) count);
-        full = λ e. refl;
+        none = λ _. (λ _. never, λ _. refl);
+        states = λ _. count;
+        shown = λ e. absurd (let z : _≡_ {A = ℕ} 0 1 = cc in omega arith);
+        not-shown = λ _. (refl, refl);
         zero = refl;
       }
   demanded noRoom more =
       record {
-        no-room = (λ e. more, λ _. refl);
-        never = λ other. absurd (other refl);
-        one = inl refl;
-        met = λ l m e. absurd (let z : _≡_ {A = ℕ} 0 1 = cc in omega arith);
-        none = λ m e. absurd (let z : _≡_ {A = ℕ} 0 1 = cc in omega arith);
-        full = λ e. refl;
+        refuses = λ refusal e. cc;
+        no-room = (λ _. more, λ _. refl);
+        none = λ other. absurd (other refl);
+        states = λ other. absurd (other refl);
+        shown = λ e. absurd (let z : _≡_ {A = ℕ} 0 1 = cc in omega arith);
+        not-shown = λ _. (refl, refl);
         zero = refl;
       }
 

@@ -23,7 +23,7 @@ use Rattle.paths.proofs.Clips.{length-more, at-more}
 use Rattle.paths.proofs.Turns.{begins, known-turn, new-turn, full-turn, next-state, next-length}
 use Rattle.paths.proofs.Ends.{ends-met, ends-none, ends-full}
 use Rattle.finder.proofs.Records.{keeps-one}
-use Rattle.finder.specs.Exploring.{Hits, Holds, Exploring, Met, Misses, Keeping}
+use Rattle.finder.specs.Exploring.{Hits, HasRoom, Exploring, Met, Misses, Keeping}
 use Rattle.finder.specs.Records.{Keeps, recordAt}
 use Rattle.finder.specs.Tables.{Looks, Stores, Shows}
 use Rattle.finder.specs.declared.explore.Kept.{Kept}
@@ -177,7 +177,7 @@ module _ {code : Code} {room : ℕ} {table : List ℕ} {k b ended : ℕ} {kept :
     to-no-room done full = ends-full _ _ _ (stepwise code good) _ _ _ _ _ _ (e .searching) done full
 
 -- The fresh state is stored
-pub to-begin : (code : Code) (room : ℕ) (table after : List ℕ) → Holds room table → 1 ≤ room → (r : Registers) → r ≡ freshRegisters → Stores table after 0 r 0 0 → Exploring code room after 0 0 1 (record { stored = 1; full = false })
+pub to-begin : (code : Code) (room : ℕ) (table after : List ℕ) → HasRoom room table → 1 ≤ room → (r : Registers) → r ≡ freshRegisters → Stores table after 0 r 0 0 → Exploring code room after 0 0 1 (record { stored = 1; full = false })
 unfolding Shows stepsOver
 to-begin code room table after holds some r fresh s =
     record {

@@ -19,9 +19,9 @@ use Rattle.reading.specs.declared.refusal.Refusal.{Refusal}
 use Rattle.rules.specs.Accepted.{IsRule, mostHorizon}
 use Rattle.rules.specs.Formula.{Formula, horizon}
 use Rattle.rules.specs.Good.{InRange, postfix}
-use Rattle.rules.specs.Loading.{Items, Reading, accepted, refused, readRule, loadedOf}
+use Rattle.rules.specs.Loading.{Items, accepted, readRule, loadedOf}
 use Rattle.rules.specs.Meaning.{Holds, holds}
-use Rattle.rules.proofs.Accepted.{accepted-rule}
+use Rattle.rules.proofs.Accepted.{accepted-rule, loaded-accepted, loaded-refused}
 use Rattle.rules.proofs.Agreement.{agreement}
 use Rattle.rules.proofs.Horizon.{first-frames}
 use Rattle.sequencer.specs.After.{stepsOver}
@@ -43,8 +43,7 @@ use Rattle.paths.specs.Answers.{First, Answer, met, none, noRoom, Right}
 use Rattle.paths.proofs.Order.{shorter-less}
 use Rattle.paths.proofs.Unique.{first-alike, right-alike}
 use Rattle.finder.specs.Exploring.{Hits, Ready, Ends}
-use Rattle.finder.specs.Finding.{foundOf, witnessAfter, Answers, shortWitness, SearchSays}
-use Rattle.finder.specs.Records.{roomOf}
+use Rattle.finder.specs.Finding.{roomOf, foundOf, witnessAfter, Answers, shortWitness, SearchSays}
 use Rattle.finder.specs.Searches.{CanTell, Tells, CanSearch, Searchable, RuleAnswers}
 use Rattle.finder.specs.declared.explore.End.{End}
 use Rattle.finder.specs.declared.search.Found.{Found}
@@ -133,18 +132,16 @@ module _ (rule : List ℕ) (small : AllBytes rule) (is : Items) (f : Formula) (r
       code-read = rw code-written (code-accepted rule is f is-rule)
 
       module _ (p : Program) (loads : p ≡ programOf (readCode (take n after))) where
-        pub not-load-refused : (r : Refusal) → program.Loaded.Refused r ≡ p .loaded → ⊥
+        loaded : p .loaded ≡ program.Loaded.Accepted (length (codeFor f))
         unfolding programOf
-        not-load-refused r e =
-            let l : p .loaded ≡ program.Loaded.Accepted (length (codeFor f)) = ap (λ q. q .loaded) loads ∙ rw code-read in
-            let z : _≡_ {A = ℕ} 0 1 = cc (e, l) in
-            omega arith
+        loaded = ap (λ q. q .loaded) loads ∙ rw code-read
+
+        pub not-load-refused : (r : Refusal) → program.Loaded.Refused r ≡ p .loaded → ⊥
+        not-load-refused r e = let z : _≡_ {A = ℕ} 0 1 = cc (e, loaded) in omega arith
 
         pub rule-ready : (count : ℕ) → program.Loaded.Accepted count ≡ p .loaded → (codeIn (p .numbers) count ≡ codeFor f) × Sound (p .numbers) count
-        unfolding programOf
         rule-ready count e =
-            let l : p .loaded ≡ program.Loaded.Accepted (length (codeFor f)) = ap (λ q. q .loaded) loads ∙ rw code-read in
-            let ready = ready-code (take n after) p count (codeFor f) code-read (good-code rule is f is-rule) (code-some rule is f is-rule) loads (cc (e, l)) in
+            let ready = ready-code (take n after) p count (codeFor f) code-read (good-code rule is f is-rule) (code-some rule is f is-rule) loads (cc (e, loaded)) in
             (cc (ready .own, ready .is, code-read), ready .sound)
 
   -- The search by that program is the search for the rule
@@ -171,39 +168,31 @@ module _ (rule : List ℕ) (small : AllBytes rule) (is : Items) (f : Formula) (r
           own-witness = a .own-witness;
         }
 
--- What loading a rule tells
-read-accepted : (read : Reading) (n h : ℕ) → loadedOf read ≡ Loaded.Accepted n h → (is : Items) × (f : Formula) × (read ≡ accepted is f) × (h ≡ horizon f)
-read-accepted (accepted is f) n h e = (is, f, refl, cc)
-read-accepted (refused r) n h e = absurd (let z : _≡_ {A = ℕ} 0 1 = cc in omega arith)
-
-read-refused : (read : Reading) (r : Refusal) → loadedOf read ≡ Loaded.Refused r → read ≡ refused r
-read-refused (accepted is f) r e = absurd (let z : _≡_ {A = ℕ} 0 1 = cc in omega arith)
-read-refused (refused s) r e = cc
-
+-- What `search` says, by what loading the rule answers
 module _ (rule : List ℕ) (answer : Loaded) (own : answer ≡ loadedOf (readRule rule)) where
   pub says-refused : (table witness : List ℕ) (r : Refusal) → answer ≡ Loaded.Refused r → SearchSays (readRule rule) table witness (Found.Refused r) table witness
-  says-refused table witness r e = rw (read-refused (readRule rule) r (sym own ∙ e)) (record { own-answer = refl; own-table = refl; own-witness = refl })
+  says-refused table witness r e = rw (loaded-refused (readRule rule) r (sym e ∙ own)) (record { own-answer = refl; own-table = refl; own-witness = refl })
 
   module _ (n h : ℕ) (e : answer ≡ Loaded.Accepted n h) where
-    rule-read : (is : Items) × (f : Formula) × (readRule rule ≡ accepted is f) × (h ≡ horizon f)
-    rule-read = read-accepted (readRule rule) n h (sym own ∙ e)
+    rule-read : (is : Items) × (f : Formula) × (readRule rule ≡ accepted is f) × (n ≡ length is) × (h ≡ horizon f)
+    rule-read = loaded-accepted (readRule rule) n h (sym e ∙ own)
 
     pub horizon-near : AllBytes rule → h ≤ mostHorizon
-    horizon-near small = let (is, f, reads, near) = rule-read in omega (arith, accepted-rule rule is f small reads .near)
+    horizon-near small = let (is, f, reads, many, near) = rule-read in omega (arith, accepted-rule rule is f small reads .near)
 
     module _ (witness : List ℕ) where
       pub says-short : length witness < h + 1 → (table : List ℕ) → SearchSays (readRule rule) table witness (Found.Refused Refusal.ShortWitness) table witness
       says-short short table =
-          let (is, f, reads, near) = rule-read in
+          let (is, f, reads, many, near) = rule-read in
           let l : shortWitness f witness ≡ true = lt-ltb (length witness) (horizon f + 1) (omega arith) in
           rw (reads, l) (record { own-answer = refl; own-table = refl; own-witness = refl })
 
       module _ (long : h + 1 ≤ length witness) where
         pub searchable : Searchable rule witness
-        searchable = let (is, f, reads, near) = rule-read in record { is = is; formula = f; reads = reads; long = omega arith }
+        searchable = let (is, f, reads, many, near) = rule-read in record { is = is; formula = f; reads = reads; long = omega arith }
 
         pub says-answers : (table : List ℕ) (r : Found) (table′ witness′ : List ℕ) → RuleAnswers rule table witness r table′ witness′ → SearchSays (readRule rule) table witness r table′ witness′
         says-answers table r table′ witness′ answers =
-            let (is, f, reads, near) = rule-read in
+            let (is, f, reads, many, near) = rule-read in
             let l : shortWitness f witness ≡ false = le-ltb (length witness) (horizon f + 1) (omega arith) in
             rw (reads, l) (answers is f reads)

@@ -9,8 +9,9 @@ use native.Mathlib.Omega.{arith}
 use borrow.Author.Tests.{ltb-true, le-ltb, eqb-true, eq-eqb}
 use lib.Dec.{eqb, ltb}
 use lib.ListN.{length}
-use Rattle.reading.specs.Buffers.{AllBytes}
+use Rattle.reading.specs.Buffers.{byteValues, AllBytes}
 use Rattle.reading.specs.Each.{Each}
+use Rattle.reading.proofs.Each.{each-then}
 use Rattle.reading.specs.Frames.{Clip, hasFlag}
 use Rattle.reading.specs.InTurn.{walked, inTurn}
 use Rattle.reading.specs.Items.{itemAt, numbersFrom, look, ruleCodes}
@@ -36,8 +37,8 @@ use Rattle.paths.specs.Answers.{Answer, met, none, noRoom}
 use Rattle.paths.specs.Model.{Machine, after, Hits, Ended, ended, unfinished, modelled}
 use Rattle.paths.proofs.Model.{model-right}
 use Rattle.paths.proofs.Unique.{one-answer, right-alike}
-use Rattle.finder.specs.Finding.{foundOf, witnessAfter, Answers, shortWitness}
-use Rattle.finder.specs.Samples.{Sample, searches, refuses, judges, emits, statesOf, Right, samples}
+use Rattle.finder.specs.Finding.{statesOf, foundOf, witnessAfter, Answers, shortWitness}
+use Rattle.finder.specs.Samples.{Sample, searches, refuses, judges, emits, Right, samples}
 use Rattle.finder.proofs.Exploring.{output-step}
 use Rattle.finder.proofs.Finding.{hits-holds}
 
@@ -102,8 +103,8 @@ after-steps code [] = refl
 after-steps code (x ∷ c) = ap (λ r. advancedBy code x r .registers) (after-steps code c)
 
 -- An answer that counts states is right with more room
-more-room : {S : Type 0} (state : Clip → S) (Meets : Clip → Type 0) (room : ℕ) (a : Answer) → 1 ≤ statesOf a → statesOf a ≤ room
-    → paths.Right state Meets (statesOf a) a → paths.Right state Meets room a
+more-room : {S : Type 0} (state : Clip → S) (Meets : Clip → Type 0) (room : ℕ) (a : Answer) → 1 ≤ statesOf (foundOf a) → statesOf (foundOf a) ≤ room
+    → paths.Right state Meets (statesOf (foundOf a)) a → paths.Right state Meets room a
 more-room state Meets room (met c n) some h (first, counts, _) = (first, counts, h)
 more-room state Meets room (none n) some h (never, counts, _) = (never, counts, h)
 more-room state Meets room noRoom some h r = absurd (omega arith)
@@ -111,12 +112,12 @@ more-room state Meets room noRoom some h r = absurd (omega arith)
 -- Whether all are bytes
 abbrev areBytes : List ℕ → Bool
 areBytes [] = true
-areBytes (x ∷ xs) = ltb x 256 && areBytes xs
+areBytes (x ∷ xs) = ltb x byteValues && areBytes xs
 
 are-bytes : (xs : List ℕ) → areBytes xs ≡ true → AllBytes xs
 are-bytes [] e i = omega arith
-are-bytes (x ∷ xs) e zero = ltb-true x 256 (and-eq-true-iff (ltb x 256) (areBytes xs) .0 e .0)
-are-bytes (x ∷ xs) e (suc i) = are-bytes xs (and-eq-true-iff (ltb x 256) (areBytes xs) .0 e .1) i
+are-bytes (x ∷ xs) e zero = ltb-true x byteValues (and-eq-true-iff (ltb x byteValues) (areBytes xs) .0 e .0)
+are-bytes (x ∷ xs) e (suc i) = are-bytes xs (and-eq-true-iff (ltb x byteValues) (areBytes xs) .0 e .1) i
 
 -- An accepted rule
 module _ (rule : List ℕ) (is : Items) (f : Formula) (bytes : areBytes rule ≡ true) (reads : readRule rule ≡ accepted is f) where
@@ -142,13 +143,13 @@ module _ (rule : List ℕ) (is : Items) (f : Formula) (bytes : areBytes rule ≡
       (model-right machine registers-sound registers-finds room fuel a e)
 
   -- and it is what the search says
-  searches-right : (h fuel : ℕ) (a : Answer) → horizon f ≡ h → 1 ≤ statesOf a → modelled machine (statesOf a) fuel ≡ ended a → Right (searches rule h a)
+  searches-right : (h fuel : ℕ) (a : Answer) → horizon f ≡ h → 1 ≤ statesOf (foundOf a) → modelled machine (statesOf (foundOf a)) fuel ≡ ended a → Right (searches rule h a)
   searches-right h fuel a near some e = (
     (length is, rw (reads, near)),
     λ table witness room long r table′ witness′ says.
         let l : shortWitness f witness ≡ false = le-ltb (length witness) (horizon f + 1) (omega arith) in
         let given : Answers (codeFor f) (Holds f) table witness r table′ witness′ = rw (reads, l) at says in
-        let one = one-answer _ _ _ (given .answer) a (given .right) (more-room _ _ _ a some room (model-answers (statesOf a) fuel a e)) in
+        let one = one-answer _ _ _ (given .answer) a (given .right) (more-room _ _ _ a some room (model-answers (statesOf (foundOf a)) fuel a e)) in
         (given .own-answer ∙ ap foundOf one, given .own-table, given .own-witness ∙ ap (λ b. witnessAfter b witness) one),
   )
 
@@ -158,7 +159,7 @@ moves = 2000
 
 -- What is computed for the row of a search, by what is read of the rule: whether it is of bytes and states are counted; the horizon; and the model's answer
 abbrev computed : List ℕ → Reading → Answer → Bool × ℕ × Ended
-computed rule (accepted is f) a = (areBytes rule && ltb 0 (statesOf a), horizon f, modelled (machineOf (codeFor f)) (statesOf a) moves)
+computed rule (accepted is f) a = (areBytes rule && ltb 0 (statesOf (foundOf a)), horizon f, modelled (machineOf (codeFor f)) (statesOf (foundOf a)) moves)
 computed rule (refused r) a = (false, 0, unfinished)
 
 -- What computes for a row
@@ -174,19 +175,15 @@ right (searches rule h a) e = of (readRule rule) refl e
   where
     of : (read : Reading) → readRule rule ≡ read → computed rule read a ≡ (true, h, ended a) → Right (searches rule h a)
     of (accepted is f) reads e =
-        let (bytes, some) = and-eq-true-iff (areBytes rule) (ltb 0 (statesOf a)) .0 (ap (λ p. p .0) e) in
-        searches-right rule is f bytes reads h moves a (ap (λ p. p .1) e) (ltb-true 0 (statesOf a) some) (ap (λ p. p .2) e)
+        let (bytes, some) = and-eq-true-iff (areBytes rule) (ltb 0 (statesOf (foundOf a))) .0 (ap (λ p. p .0) e) in
+        searches-right rule is f bytes reads h moves a (ap (λ p. p .1) e) (ltb-true 0 (statesOf (foundOf a)) some) (ap (λ p. p .2) e)
     of (refused r) reads e = absurd (false≢true (ap (λ p. p .0) e))
 right (refuses rule refusal) e = λ table witness r table′ witness′ says. let given = rw e at says in (given .own-answer, given .own-table, given .own-witness)
 right (judges rule clip verdicts) e = e
 right (emits rule code) e = e
 
-rights : (rows : List Sample) → Each Computes rows → Each Right rows
-rights [] h = tt
-rights (s ∷ rows) (own, rest) = (right s own, rights rows rest)
-
 -- The run and the emitted code are rows of the emitter's samples
 pub samples-right : Each Right samples
 unfolding samples emitter.samples readRule walked inTurn itemAt numbersFrom look ruleCodes numberAt judgeOf badWindow tooLarge countsOf countedOf timedIn lowerIn stackFrom apply itemOf horizon laterBy timed itemCode translate advancedBy executed execute shifted next hasFlag
 samples-right =
-    rights samples (refl, (refl, (refl, (refl, (refl, (refl, (refl, (refl, (refl, (refl, (refl, (refl, (refl, (refl, (refl, (emitted.samples-right .1 .1 .0, (emitted.samples-right .0, (refl, tt))))))))))))))))))
+    each-then Computes Right right samples (refl, (refl, (refl, (refl, (refl, (refl, (refl, (refl, (refl, (refl, (refl, (refl, (refl, (refl, (refl, (emitted.samples-right .1 .1 .0, (emitted.samples-right .0, (refl, tt))))))))))))))))))

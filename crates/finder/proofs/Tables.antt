@@ -2,10 +2,8 @@
 -- A look-up has missed the first records if no one of them has the key's bytes.
 use mathlib.Core.Path.{_≡_, sym, _∙_}
 use mathlib.Core.Bool.{true, false}
-use mathlib.Core.Logic.{⊎-elim}
 use mathlib.Core.List.{List, _++_}
 use Prim.Native.Nat.{ℕ, _+_, _*_, _-_, _≤_, _<_}
-use native.Mathlib.Nat.{eq-or-lt-of-le}
 use native.Mathlib.Omega.{arith}
 use borrow.Rule.Slice.PartMut.{midOf, putMid, same-len-mid, mid-len}
 use lib.ListN.{length, take, drop, length-drop, take-append-drop}
@@ -15,6 +13,7 @@ use Rattle.sequencer.specs.declared.registers.Registers.{Registers}
 use Rattle.finder.specs.Records.{Keeps, SameKey, Has, recordAt}
 use Rattle.finder.specs.Tables.{Looks, Stores}
 use Rattle.finder.specs.declared.table.Look.{Look}
+use Rattle.finder.proofs.Records.{one-more}
 
 -- Where a record begins, and how long the part from there to its end is, as lending writes it
 abbrev startOf : ℕ → ℕ
@@ -42,11 +41,7 @@ module _ (table key : List ℕ) where
   missed-none = record { each = λ m h. absurd (omega arith) }
 
   pub missed-more : (n : ℕ) → Missed table key n → SameKey (recordAt table n) key false → Missed table key (n + 1)
-  missed-more n missed own = record { each = upTo }
-    where
-      upTo : (m : ℕ) → m < n + 1 → SameKey (recordAt table m) key false
-      upTo m h = let below : m ≤ n = omega arith in
-          ⊎-elim (λ e. rw e own) (missed .each m) (eq-or-lt-of-le below)
+  missed-more n missed own = record { each = one-more (λ m. SameKey (recordAt table m) key false) n (missed .each) own }
 
   module _ (stored : ℕ) (r : Registers) (keeps : Keeps key r) (n : ℕ) where
     pub looks-at : n < stored → SameKey (recordAt table n) key true → Looks table stored r (Look.At n)

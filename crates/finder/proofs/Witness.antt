@@ -78,7 +78,6 @@ module _ (table : List ℕ) (state frame : ℕ) (before : List ℕ) where
         pub tail : Clip
         pub own : w .rest ≡ head ∷ tail
         pub own-frame : frameIn (recordAt table at) ≡ head
-        pub linked : link ≡ (link - 1) + 1
         pub less : link - 1 < at
         pub leads : Shows table (link - 1) tail
 
@@ -96,7 +95,6 @@ module _ (table : List ℕ) (state frame : ℕ) (before : List ℕ) where
                 tail = c;
                 own = e;
                 own-frame = own-frame;
-                linked = omega (arith, w .own-link);
                 less = omega (arith, w .own-link);
                 leads = subst (λ i. Shows table i c) back leads;
               }

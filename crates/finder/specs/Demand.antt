@@ -2,8 +2,9 @@
 -- backwards; or says that none exists, exactly if no clip of one or more frames satisfies the rule; before both comes "no room", exactly if the distinct register states, the fresh
 -- one included, reached by clips shorter than the shortest satisfying one (by all clips, if there is none) outnumber the table's records.
 use mathlib.Core.Path.{_≡_}
+use mathlib.Core.Bool.{true, false}
 use mathlib.Core.List.{List}
-use mathlib.Core.Logic.{_⊎_, _↔_}
+use mathlib.Core.Logic.{_↔_}
 use Prim.Native.Nat.{ℕ, _+_, _≤_}
 use lib.ListN.{length, take, drop, replicate}
 use Rattle.reading.specs.Frames.{Clip}
@@ -14,8 +15,7 @@ use Rattle.rules.specs.Meaning.{Holds}
 use Rattle.sequencer.specs.After.{stepsOver}
 use Rattle.emitter.specs.Translation.{codeFor}
 use Rattle.paths.specs.Answers.{Satisfying, First, Counts, Outnumber}
-use Rattle.finder.specs.Finding.{SearchSays}
-use Rattle.finder.specs.Records.{roomOf}
+use Rattle.finder.specs.Finding.{roomOf, isMet, lengthOf, statesOf, SearchSays}
 use Rattle.finder.specs.declared.search.Found.{Found}
 
 -- The distinct states so counted are so many
@@ -31,12 +31,12 @@ pub record Shown (f : Formula) (l : ℕ) (before after : List ℕ) : Type 0 wher
 
 -- What is demanded of the answer for a rule, and of both buffers after it
 pub record Demanded (f : Formula) (table witness : List ℕ) (r : Found) (table′ witness′ : List ℕ) : Type 0 where
+  pub refuses : (refusal : Refusal) → r ≡ Found.Refused refusal → refusal ≡ Refusal.NoRoom
   pub no-room : (r ≡ Found.Refused Refusal.NoRoom) ↔ Outnumber (stepsOver (codeFor f)) (Holds f) (roomOf table)
-  pub never : (r ≡ Found.Refused Refusal.NoRoom → ⊥) → ((n : ℕ) × (r ≡ Found.None n)) ↔ ((c : Clip) → Satisfying (Holds f) c → ⊥)
-  pub one : (r ≡ Found.Refused Refusal.NoRoom) ⊎ (((n : ℕ) × (r ≡ Found.None n)) ⊎ ((l n : ℕ) × (r ≡ Found.Met l n)))
-  pub met : (l n : ℕ) → r ≡ Found.Met l n → Shown f l witness witness′ × States f n
-  pub none : (n : ℕ) → r ≡ Found.None n → (witness′ ≡ witness) × States f n
-  pub full : r ≡ Found.Refused Refusal.NoRoom → witness′ ≡ witness
+  pub none : (r ≡ Found.Refused Refusal.NoRoom → ⊥) → (isMet r ≡ false) ↔ ((c : Clip) → Satisfying (Holds f) c → ⊥)
+  pub states : (r ≡ Found.Refused Refusal.NoRoom → ⊥) → States f (statesOf r)
+  pub shown : isMet r ≡ true → Shown f (lengthOf r) witness witness′
+  pub not-shown : isMet r ≡ false → (lengthOf r ≡ 0) × (witness′ ≡ witness)
   pub zero : table′ ≡ replicate (length table) 0
 
 -- The demand: of an accepted rule and a witness buffer that is not shorter than horizon + 1, `search` answers and leaves just this

@@ -25,7 +25,7 @@ abbrev pub Hits : Code → Clip → Type 0
 Hits code c = output code c ≡ true
 
 -- A table that holds so many records, no more than 01 allows
-pub record Holds (room : ℕ) (table : List ℕ) : Type 0 where
+pub record HasRoom (room : ℕ) (table : List ℕ) : Type 0 where
   pub fits : room * limits .record_bytes ≤ length table
   pub most : room ≤ limits .records
 
@@ -34,7 +34,7 @@ pub record Exploring (code : Code) (room : ℕ) (table : List ℕ) (k b ended : 
   pub clips : List Clip
   pub frames : ℕ
   pub number : length clips ≡ kept .stored
-  pub holds : Holds room table
+  pub holds : HasRoom room table
   pub keeps : (i : ℕ) → i < length clips → Keeps (recordAt table i) (stepsOver code (clipAt clips i))
   pub shows : (i : ℕ) → i < length clips → Shows table i (clipAt clips i)
   pub searching : Searching (stepsOver code) (Hits code) room clips frames k b ended (kept .full)
@@ -77,7 +77,7 @@ TriedTo code room table ended state frame kept false = Exploring code room table
 -- What exploring needs: sound code, and a table with so many records
 pub record Ready (numbers : List ℕ) (n room : ℕ) (table : List ℕ) : Type 0 where
   pub sound : Sound numbers n
-  pub holds : Holds room table
+  pub holds : HasRoom room table
 
 -- What exploring comes to
 abbrev pub Ends : Code → ℕ → List ℕ → End → Type 0

@@ -1,15 +1,16 @@
--- What the search answers, and what it leaves in the two lent buffers. Document 01: "Search: rule, 14, 15", "14 witness buffer shorter than horizon + 1", "The witness goes into the
--- first bytes of its buffer in frame order, the rest unchanged. An answer gives met or not, the length (0 if not) and the number of states counted as in demand 2. The table is all
--- zero after every answer and after refusal 15. "None exists" leaves the witness buffer unchanged." A state is "the value of all registers of the emitted code", and a clip reaches
--- the one "that its frames, last to first, lead to from fresh registers": `stepsOver (codeFor f)`.
+-- What the search answers, and what it leaves in the two lent buffers. Document 01: "room is the table's length divided by 80, rounded down, at most 65,536", "Search: rule, 14, 15",
+-- "14 witness buffer shorter than horizon + 1", "The witness goes into the first bytes of its buffer in frame order, the rest unchanged. An answer gives met or not, the length (0 if
+-- not) and the number of states counted as in demand 2. The table is all zero after every answer and after refusal 15. "None exists" leaves the witness buffer unchanged." A state is "the
+-- value of all registers of the emitted code", and a clip reaches the one "that its frames, last to first, lead to from fresh registers": `stepsOver (codeFor f)`.
 use mathlib.Core.Path.{_≡_}
 use mathlib.Core.Bool.{Bool, true, false}
 use mathlib.Core.List.{List}
-use Prim.Native.Nat.{ℕ, _+_}
+use Prim.Native.Nat.{ℕ, _+_, _/_, min}
 use lib.Dec.{ltb}
 use lib.ListN.{length, replicate}
 use Rattle.reading.specs.Buffers.{over}
 use Rattle.reading.specs.Frames.{Clip}
+use Rattle.reading.specs.Limits.{limits}
 use Rattle.reading.specs.declared.refusal.Refusal.{Refusal}
 use Rattle.rules.specs.Formula.{Formula, horizon}
 use Rattle.rules.specs.Loading.{Reading, accepted, refused}
@@ -18,14 +19,35 @@ use Rattle.sequencer.specs.After.{stepsOver}
 use Rattle.sequencer.specs.Code.{Code}
 use Rattle.emitter.specs.Translation.{codeFor}
 use Rattle.paths.specs.Answers.{Answer, met, none, noRoom, Right}
-use Rattle.finder.specs.Records.{roomOf}
 use Rattle.finder.specs.declared.search.Found.{Found}
+
+-- Room: how many records a table has
+unfoldable pub roomOf : List ℕ → ℕ
+roomOf table = min (length table / limits .record_bytes) (limits .records)
 
 -- An answer as `search` gives it: length and states, states, or refusal 15
 abbrev pub foundOf : Answer → Found
 foundOf (met c n) = Found.Met (length c) n
 foundOf (none n) = Found.None n
 foundOf noRoom = Found.Refused Refusal.NoRoom
+
+-- Met or not
+abbrev pub isMet : Found → Bool
+isMet (Found.Met l n) = true
+isMet (Found.None n) = false
+isMet (Found.Refused r) = false
+
+-- The length, 0 if not met
+abbrev pub lengthOf : Found → ℕ
+lengthOf (Found.Met l n) = l
+lengthOf (Found.None n) = 0
+lengthOf (Found.Refused r) = 0
+
+-- The number of states
+abbrev pub statesOf : Found → ℕ
+statesOf (Found.Met l n) = n
+statesOf (Found.None n) = n
+statesOf (Found.Refused r) = 0
 
 -- The witness buffer after an answer: a clip over its first bytes, or as it was
 abbrev pub witnessAfter : Answer → List ℕ → List ℕ

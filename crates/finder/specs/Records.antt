@@ -1,9 +1,9 @@
--- The table's records. Document 01: "A record takes 80 bytes; room is the table's length divided by 80, rounded down, at most 65,536." A record keeps the registers of a state, two
--- bytes for each counter, lowest first, and a bit for each delay bit; the link to the record that it came from, as its number and one more, or 0; and the frame byte in front.
+-- The table's records. Document 01: "A record takes 80 bytes". It keeps the registers of a state, two bytes for each counter, lowest first, and a bit for each delay bit; the link to the
+-- record that it came from, as its number and one more, or 0; and the frame byte in front. Contracts of inner functions cite it; `search` says nothing of it.
 use mathlib.Core.Path.{_≡_}
 use mathlib.Core.Bool.{Bool, true, false, cond}
 use mathlib.Core.List.{List}
-use Prim.Native.Nat.{ℕ, zero, suc, _+_, _*_, _-_, _/_, _%_, _≤_, _<_, min}
+use Prim.Native.Nat.{ℕ, zero, suc, _+_, _*_, _-_, _/_, _%_, _≤_, _<_}
 use lib.Dec.{ltb}
 use lib.ListN.{length, getD, take, drop}
 use Rattle.reading.specs.Frames.{hasFlag}
@@ -89,7 +89,3 @@ pub record Has (bytes : List ℕ) (r : Registers) (link frame : ℕ) : Type 0 wh
 -- A record of a table, by its number
 abbrev pub recordAt : List ℕ → ℕ → List ℕ
 recordAt table n = take (limits .record_bytes) (drop (n * limits .record_bytes) table)
-
--- How many records a table has
-unfoldable pub roomOf : List ℕ → ℕ
-roomOf table = min (length table / limits .record_bytes) (limits .records)

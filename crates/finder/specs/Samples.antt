@@ -9,9 +9,8 @@ use Rattle.reading.specs.declared.refusal.Refusal.{Refusal}
 use Rattle.rules.specs.Loading.{readRule, loadedOf}
 use Rattle.rules.specs.declared.load.Loaded.{Loaded}
 use Rattle.emitter.specs.Samples as emitter
-use Rattle.paths.specs.Answers.{Answer, met, none, noRoom}
-use Rattle.finder.specs.Finding.{foundOf, witnessAfter, SearchSays}
-use Rattle.finder.specs.Records.{roomOf}
+use Rattle.paths.specs.Answers.{Answer, met, none}
+use Rattle.finder.specs.Finding.{statesOf, roomOf, foundOf, witnessAfter, SearchSays}
 use Rattle.finder.specs.declared.search.Found.{Found}
 
 -- A row: a rule, its horizon and the search's answer; a rule and its refusal; a rule, a clip and what a run of its code writes for it; or a rule and its code
@@ -21,18 +20,12 @@ pub data Sample : Type 0 where
   judges : List ℕ → Clip → List ℕ → Sample
   emits : List ℕ → List ℕ → Sample
 
--- The states that an answer counts
-abbrev pub statesOf : Answer → ℕ
-statesOf (met c n) = n
-statesOf (none n) = n
-statesOf noRoom = 0
-
 -- A row is right by the definitions that the contracts cite: a search says this for every table with room for the states and every witness buffer of horizon + 1 bytes or more, a
 -- refusal for all
 abbrev pub Right : Sample → Type 0
 Right (searches rule horizon answer) =
     ((n : ℕ) × (loadedOf (readRule rule) ≡ Loaded.Accepted n horizon))
-    × ((table witness : List ℕ) → statesOf answer ≤ roomOf table → horizon + 1 ≤ length witness
+    × ((table witness : List ℕ) → statesOf (foundOf answer) ≤ roomOf table → horizon + 1 ≤ length witness
     → (r : Found) (table′ witness′ : List ℕ) → SearchSays (readRule rule) table witness r table′ witness′
     → (r ≡ foundOf answer) × (table′ ≡ replicate (length table) 0) × (witness′ ≡ witnessAfter answer witness))
 Right (refuses rule refusal) =

@@ -13,14 +13,14 @@ use sequencer::registers::Registers;
 use sequencer::run::byte_of;
 
 // The bytes of the counters, and of all registers.
-const COUNTER_BYTES: usize = 32;
+const COUNTER_BYTES: usize = 2 * COUNTERS;
 
-pub(crate) const KEY: usize = 64;
+pub(crate) const KEY: usize = COUNTER_BYTES + DELAYS / 8;
 
 // Where the link and the frame byte stand.
-const LINK: usize = 64;
+const LINK: usize = KEY;
 
-const FRAME: usize = 67;
+const FRAME: usize = LINK + 3;
 
 // Four bits as a number, the first lowest.
 fn nibble_of(a: bool, b: bool, c: bool, d: bool) -> u8

@@ -74,7 +74,8 @@ fn search_code(numbers: &[u16], count: usize, table: &mut [u8], witness: &mut [u
     found
 }
 
-// Searches by the emitted code of a rule that is accepted, with a witness buffer that is long enough.
+// Searches by the emitted code of a rule that is accepted, with a witness buffer that is long enough. Neither refusal inside comes: the array holds
+// the code of every accepted rule, and that code loads.
 fn search_rule(rule: &[u8], table: &mut [u8], witness: &mut [u8]) -> Found
     requires { ⌜ Searchable (now rule) (now witness) ⌝ }
     ensures { λ r. ⌜ RuleAnswers (now (rule .entry)) (now (table .entry)) (now (witness .entry)) r (now (table .exit)) (now (witness .exit)) ⌝ }

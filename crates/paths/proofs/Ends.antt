@@ -8,11 +8,11 @@ use Prim.Native.Nat.{ℕ, suc, _+_, _≤_, _<_}
 use native.Mathlib.Decide.{decLt}
 use native.Mathlib.Nat.{eq-or-lt-of-le}
 use native.Mathlib.Omega.{arith}
-use lib.ListN.{length, getD, take}
+use lib.ListN.{length, take}
 use lib.Seq.{length-take-le, getD-take}
 use Rattle.reading.specs.Buffers.{AllBytes}
-use Rattle.reading.specs.Each.{Each}
 use Rattle.reading.specs.Frames.{Clip}
+use Rattle.reading.proofs.Each.{each-of}
 use Rattle.paths.specs.Order.{Less}
 use Rattle.paths.specs.Answers.{Satisfying, Short, Counts, met, none, noRoom, Right}
 use Rattle.paths.specs.Searching.{Stepwise, clipAt, frameBytes, Stored, Searching}
@@ -38,11 +38,6 @@ no-later-more x u v h = ⊎-map (λ e. cc) inl h
 
 stored-length : {S : Type 0} {state : Clip → S} {clips : List Clip} {c : Clip} (r : Stored state clips c) → length (clipAt clips (r .number)) ≤ length c
 stored-length {clips} {c} r = ⊎-elim (λ e. rw e (omega arith)) (less-length (clipAt clips (r .number)) c) (r .early)
-
--- What holds at each place holds of each element
-each-of : {A : Type 0} (P : A → Type 0) (xs : List A) (d : A) → ((i : ℕ) → i < length xs → P (getD xs i d)) → Each P xs
-each-of P [] d h = tt
-each-of P (x ∷ xs) d h = (h 0 (omega arith), each-of P xs d (λ i l. h (suc i) (omega arith)))
 
 module _ {S : Type 0} (state : Clip → S) (Meets : Clip → Type 0) (room : ℕ) where
   -- Without a record, the fresh state has no place

@@ -5,8 +5,8 @@ use mathlib.Core.List.{List, [], _∷_}
 use mathlib.Core.Logic.{_⊎_, inl, inr, _↔_}
 use Prim.Native.Nat.{ℕ}
 use native.Mathlib.Omega.{arith}
-use Rattle.reading.specs.Each.{Each}
 use Rattle.reading.specs.Frames.{Clip}
+use Rattle.reading.proofs.Each.{each-then}
 use Rattle.paths.specs.Order.{Less}
 use Rattle.paths.specs.Answers.{Satisfying, First, Short, Distinct, Counts, Answer, met, none, noRoom, Right}
 use Rattle.paths.proofs.Order.{less-or}
@@ -40,10 +40,6 @@ module _ (Meets Meets′ : Clip → Type 0) (then : (x : ℕ) (c : Clip) → Mee
   short-then : (c : Clip) → Short Meets′ c → Short Meets c
   short-then c h = record { bytes = h .bytes; shorter = λ d s. h .shorter d (satisfying-then d s) }
 
-  shorts-then : (clips : List Clip) → Each (Short Meets′) clips → Each (Short Meets) clips
-  shorts-then [] h = tt
-  shorts-then (c ∷ clips) h = (short-then c (h .0), shorts-then clips (h .1))
-
 module _ (Meets Meets′ : Clip → Type 0) (alike : (x : ℕ) (c : Clip) → Meets (x ∷ c) ↔ Meets′ (x ∷ c)) where
   back : (c : Clip) → Satisfying Meets′ c → Satisfying Meets c
   back = satisfying-then Meets′ Meets λ x c. alike x c .1
@@ -54,7 +50,7 @@ module _ (Meets Meets′ : Clip → Type 0) (alike : (x : ℕ) (c : Clip) → Me
 
 module _ {S : Type 0} (state : Clip → S) (Meets Meets′ : Clip → Type 0) (alike : (x : ℕ) (c : Clip) → Meets (x ∷ c) ↔ Meets′ (x ∷ c)) where
   distinct-alike : (clips : List Clip) → Distinct state Meets clips → Distinct state Meets′ clips
-  distinct-alike clips h = record { short = shorts-then Meets′ Meets (λ x c. alike x c .1) clips (h .short); different = h .different }
+  distinct-alike clips h = record { short = each-then (Short Meets) (Short Meets′) (short-then Meets′ Meets (λ x c. alike x c .1)) clips (h .short); different = h .different }
 
   counts-alike : (n : ℕ) → Counts state Meets n → Counts state Meets′ n
   counts-alike n h =

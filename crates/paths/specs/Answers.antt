@@ -1,5 +1,5 @@
--- What an answer of the search says, for any meaning and any states: `Meets` are the clips that satisfy, `state` is what a clip reaches. It is stated, not computed. Document 01's
--- demand 2: "the search shows a satisfying clip, the shortest, and of those the first when frames are compared from the last backwards; or says that none exists, exactly if no
+-- What an answer of the search says, for any meaning and any states: `Meets` are the clips that satisfy, `state` is what a clip reaches. It is stated, not computed. The second
+-- demand: "the search shows a satisfying clip, the shortest, and of those the first when frames are compared from the last backwards; or says that none exists, exactly if no
 -- clip of one or more frames satisfies the rule; before both comes "no room", exactly if the distinct register states, the fresh one included, reached by clips shorter than the
 -- shortest satisfying one (by all clips, if there is none) outnumber the table's records."
 use mathlib.Core.Path.{_≡_}

@@ -1,4 +1,4 @@
--- The order of clips. Document 01's demand 2: "the shortest, and of those the first when frames are compared from the last backwards". `proofs/Order.antt` shows that the
+-- The order of clips. The second demand: "the shortest, and of those the first when frames are compared from the last backwards". `proofs/Order.antt` shows that the
 -- recursion here says just that.
 use mathlib.Core.Path.{_≡_}
 use mathlib.Core.List.{[], _∷_}

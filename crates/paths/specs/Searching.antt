@@ -7,7 +7,7 @@ use mathlib.Core.List.{List, [], _∷_}
 use mathlib.Core.Logic.{_⊎_}
 use Prim.Native.Nat.{ℕ, _+_, _≤_, _<_}
 use lib.ListN.{length, getD}
-use Rattle.reading.specs.Buffers.{AllBytes}
+use Rattle.reading.specs.Buffers.{byteValues, AllBytes}
 use Rattle.reading.specs.Frames.{Clip}
 use Rattle.paths.specs.Order.{Less}
 
@@ -22,7 +22,7 @@ clipAt clips i = getD clips i []
 
 -- The number of frame bytes
 abbrev pub frameBytes : ℕ
-frameBytes = 256
+frameBytes = byteValues
 
 -- A trial is behind trial (k, b)
 abbrev pub Tried : ℕ → ℕ → ℕ → ℕ → Type 0

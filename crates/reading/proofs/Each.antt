@@ -1,4 +1,4 @@
--- Laws of `Each`: with one element more, of lists one behind the other, and of the element at a place.
+-- Laws of `Each`: with one element more, of lists one behind the other, of the element at a place, and of one property that gives another.
 use mathlib.Core.List.{List, [], _∷_, _++_}
 use Prim.Native.Nat.{ℕ, zero, suc, _<_}
 use native.Mathlib.Omega.{arith}
@@ -18,3 +18,11 @@ module _ {A : Type 0} (P : A → Type 0) where
   each-at [] d k e h = absurd (omega arith)
   each-at (x ∷ xs) d zero e h = e .0
   each-at (x ∷ xs) d (suc k) e h = each-at xs d k (e .1) (omega arith)
+
+  pub each-of : (xs : List A) (d : A) → ((k : ℕ) → k < length xs → P (getD xs k d)) → Each P xs
+  each-of [] d h = tt
+  each-of (x ∷ xs) d h = (h 0 (omega arith), each-of xs d (λ k l. h (suc k) (omega arith)))
+
+  pub each-then : (Q : A → Type 0) → ((x : A) → P x → Q x) → (xs : List A) → Each P xs → Each Q xs
+  each-then Q then [] e = tt
+  each-then Q then (x ∷ xs) e = (then x (e .0), each-then Q then xs (e .1))

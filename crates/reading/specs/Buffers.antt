@@ -6,9 +6,13 @@ use Prim.Native.Nat.{ℕ, _<_}
 use lib.Dec.{ltb}
 use lib.ListN.{length, getD, drop}
 
+-- How many values a byte has
+abbrev pub byteValues : ℕ
+byteValues = 256
+
 -- Every element is a byte, as in every lent buffer of bytes
 abbrev pub AllBytes : List ℕ → Type 0
-AllBytes bytes = (i : ℕ) → getD bytes i 0 < 256
+AllBytes bytes = (i : ℕ) → getD bytes i 0 < byteValues
 
 -- An output buffer that is shorter than the answer
 abbrev pub tooShort : List ℕ → List ℕ → Bool

@@ -10,12 +10,13 @@ use Rattle.reading.specs.InTurn.{Verdict, Walked, walked}
 use Rattle.reading.specs.declared.refusal.Refusal.{Refusal}
 use Rattle.reading.proofs.InTurn.{walked-back}
 use Rattle.rules.specs.Accepted.{IsRule}
-use Rattle.rules.specs.Formula.{Formula, True, False, Flag, Not, And, Or, Until, Release, Eventually, Globally}
+use Rattle.rules.specs.Formula.{Formula, True, False, Flag, Not, And, Or, Until, Release, Eventually, Globally, horizon}
 use Rattle.rules.specs.Good.{Good, postfix, postfixes}
 use Rattle.rules.specs.Items.{apply, bytesOf}
-use Rattle.rules.specs.Loading.{Items, accepted, refused, oneValue, atEnd, verdictOf, ruleKind, judgeOf, countsOf, stackFrom, stackOf, readRule}
+use Rattle.rules.specs.Loading.{Items, Reading, accepted, refused, loadedOf, oneValue, atEnd, verdictOf, ruleKind, judgeOf, countsOf, stackFrom, stackOf, readRule}
 use Rattle.rules.specs.declared.item.Item.{Item}
 use Rattle.rules.specs.declared.judge.Judged.{Judged}
+use Rattle.rules.specs.declared.load.Loaded.{Loaded}
 use Rattle.rules.proofs.Good.{good-none, good-more}
 use Rattle.rules.proofs.Judging.{fine}
 use Rattle.rules.proofs.RuleBytes.{item-bytes, rule-length}
@@ -84,3 +85,12 @@ accepted-rule bytes is f small e =
       near = omega (arith, near .0, g .within .timed);
       short = omega (arith, ap length all, rule-length is (g .ranges), g .within .items, g .within .timed);
     }
+
+-- What an answer of loading tells of the rule that was read
+pub loaded-accepted : (read : Reading) (n h : ℕ) → Loaded.Accepted n h ≡ loadedOf read → (is : Items) × (f : Formula) × (read ≡ accepted is f) × (n ≡ length is) × (h ≡ horizon f)
+loaded-accepted (accepted is f) n h e = (is, f, refl, cc, cc)
+loaded-accepted (refused r) n h e = absurd (let z : _≡_ {A = ℕ} 0 1 = cc in omega arith)
+
+pub loaded-refused : (read : Reading) (r : Refusal) → Loaded.Refused r ≡ loadedOf read → read ≡ refused r
+loaded-refused (accepted is f) r e = absurd (let z : _≡_ {A = ℕ} 0 1 = cc in omega arith)
+loaded-refused (refused s) r e = cc

@@ -7,6 +7,7 @@ use native.Mathlib.Omega.{arith}
 use borrow.Author.Tests.{le-ltb}
 use lib.ListN.{length, take, length-append}
 use Rattle.reading.specs.Each.{Each}
+use Rattle.reading.proofs.Each.{each-then}
 use Rattle.reading.specs.InTurn.{walked}
 use Rattle.reading.specs.Items.{numbersOf, noCode, look, ruleCodes}
 use Rattle.reading.specs.Limits.{limits}
@@ -51,10 +52,6 @@ numbered (Item.Until a b) r = numbers a b (omega arith) refl refl
 numbered (Item.Release a b) r = numbers a b (omega arith) refl refl
 numbered (Item.Eventually a b) r = numbers a b (omega arith) refl refl
 numbered (Item.Globally a b) r = numbers a b (omega arith) refl refl
-
-each-numbered : (is : Items) → Each InRange is → Each (Numbered ruleKind bytesOf) is
-each-numbered [] e = tt
-each-numbered (i ∷ is) e = (numbered i (e .0), each-numbered is (e .1))
 
 -- an item that passes each test is not refused
 passed : (c : Counts) (at : ℕ) (i : Item) → Fine c i (countedOf c (rowOf i)) → judgeOf c at i ≡ Judged.Next (countedOf c (rowOf i))
@@ -125,5 +122,5 @@ rule-accepted bytes is f r =
       timed = omega arith;
       lower = omega arith;
     } in
-    let read = walked-there ruleKind bytesOf is (r .some) (passes [] is a) (each-numbered is (r .ranges)) in
+    let read = walked-there ruleKind bytesOf is (r .some) (passes [] is a) (each-then InRange (Numbered ruleKind bytesOf) numbered is (r .ranges)) in
     ap (atEnd (length bytes)) (ap (walked ruleKind) (r .own-bytes) ∙ read) ∙ rw value

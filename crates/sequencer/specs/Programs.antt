@@ -1,4 +1,4 @@
--- How the numbers that loading keeps stand for code, and what one frame through them leaves. Contracts of inner functions cite it; `step` and `run` say nothing of it.
+-- How the numbers that loading keeps stand for code, and what one frame through them leaves. The contracts of `advance` and of inner functions cite it; `step` and `run` say nothing of it.
 use mathlib.Core.Path.{_≡_}
 use mathlib.Core.Bool.{Bool}
 use mathlib.Core.List.{List, [], _∷_, _++_}

@@ -8,7 +8,6 @@ use crate::emit::emit;
 use crate::machine::Registers;
 use crate::meaning::holds;
 use crate::rule::Formula;
-use crate::search::bytes_of_flags;
 use std::collections::HashSet;
 
 /// All clips of so many frames of these bytes, which rise, in document 01's
@@ -22,13 +21,11 @@ fn clips(bytes: &[u8], frames: usize) -> impl Iterator<Item = Vec<u8>> + '_ {
     })
 }
 
-/// The first clip that satisfies a formula. A longer one than the horizon and
-/// one frame satisfies it exactly if those first frames do, so it is not the
-/// first. Nor is one with a flag that the formula does not name: without it the
-/// clip says the same and comes before.
-pub fn first_clip(f: &Formula) -> Option<Vec<u8>> {
-    let bytes = bytes_of_flags(f);
-    let mut all = (1..=f.horizon() + 1).flat_map(|frames| clips(&bytes, frames));
+/// The first clip of these bytes, which rise, that satisfies a formula. A longer
+/// one than the horizon and one frame satisfies it exactly if those first frames
+/// do, so it is not the first.
+pub fn first_clip(f: &Formula, bytes: &[u8]) -> Option<Vec<u8>> {
+    let mut all = (1..=f.horizon() + 1).flat_map(|frames| clips(bytes, frames));
     all.find(|clip| holds(f, clip, 0))
 }
 
@@ -41,16 +38,16 @@ fn state_of(code: &[Instruction], clip: &[u8]) -> Registers {
     registers
 }
 
-/// How many states the clips of fewer frames than these reach, or all clips.
-/// Where those of one length reach no new state, longer ones do not either: one
-/// frame more leads from a state that a shorter clip reaches.
-pub fn count_states(f: &Formula, frames: Option<usize>) -> usize {
-    let bytes = bytes_of_flags(f);
+/// How many states the clips of these bytes and fewer frames than these reach, or
+/// all clips of these bytes. Where those of one length reach no new state, longer
+/// ones do not either: one frame more leads from a state that a shorter clip
+/// reaches.
+pub fn count_states(f: &Formula, bytes: &[u8], frames: Option<usize>) -> usize {
     let code = emit(f);
     let mut states = HashSet::new();
     for length in 0..frames.unwrap_or(usize::MAX) {
         let shorter = states.len();
-        states.extend(clips(&bytes, length).map(|clip| state_of(&code, &clip)));
+        states.extend(clips(bytes, length).map(|clip| state_of(&code, &clip)));
         if states.len() == shorter {
             break;
         }
@@ -63,7 +60,7 @@ mod tests {
     use super::*;
     use crate::random::{searched_formula, Budget, Random};
     use crate::rule::Refusal;
-    use crate::search::{explore, search, Answer, RECORD};
+    use crate::search::{bytes_of_flags, explore, search, Answer, RECORD};
     use crate::write::write;
 
     /// A random formula with so few flags and so small a horizon that every clip
@@ -87,6 +84,48 @@ mod tests {
         }
     }
 
+    /// A random formula of this horizon, 0 or 1, over up to eight flags.
+    fn short_formula(random: &mut Random, horizon: usize) -> Formula {
+        loop {
+            let mut budget = Budget {
+                timed: random.between(0, 4),
+                lower: random.between(0, 4),
+                bound: horizon,
+                flag: random.pick(&[0, 1, 2, 7]),
+            };
+            let items = random.between(1, 9);
+            let f = searched_formula(random, items, &mut budget);
+            if f.horizon() == horizon {
+                return f;
+            }
+        }
+    }
+
+    /// Searches in a table of so many bytes: the answer is this first clip and
+    /// this number of states, or 15 if there is no room, and both buffers are as
+    /// they have to be.
+    fn search_agrees(f: &Formula, clip: &Option<Vec<u8>>, states: usize, table: usize) {
+        let mut after = vec![9; table];
+        let mut witness = vec![9; f.horizon() + 1];
+        let answer = search(&write(f), &mut after, &mut witness);
+        let (expected, frames) = match clip {
+            _ if table < states * RECORD => {
+                let (number, place) = (15, 0);
+                (Err(Refusal { number, place }), &[][..])
+            }
+            Some(clip) => {
+                let length = clip.len();
+                (Ok(Answer::Met { length, states }), &clip[..])
+            }
+            None => (Ok(Answer::None { states }), &[][..]),
+        };
+        assert_eq!(answer, expected, "{f:?}");
+        assert!(after.iter().all(|&byte| byte == 0), "{f:?}");
+        let (first, left) = witness.split_at(frames.len());
+        assert_eq!(first, frames, "{f:?}");
+        assert!(left.iter().all(|&byte| byte == 9), "{f:?}");
+    }
+
     #[test]
     fn clips_come_in_their_order() {
         let all = |bytes: &[u8], frames| clips(bytes, frames).collect::<Vec<_>>();
@@ -108,10 +147,18 @@ mod tests {
         let mut most = 0;
         for _ in 0..3_000 {
             let f = tiny_formula(&mut random);
-            let clip = first_clip(&f);
-            let states = count_states(&f, clip.as_ref().map(Vec::len));
-            let explored = explore(&emit(&f), &bytes_of_flags(&f), usize::MAX);
+            // No first clip has a flag that the formula does not name: without it
+            // the clip says the same and comes before.
+            let bytes = bytes_of_flags(&f);
+            let clip = first_clip(&f, &bytes);
+            let states = count_states(&f, &bytes, clip.as_ref().map(Vec::len));
+            let explored = explore(&emit(&f), &bytes, usize::MAX);
             assert_eq!((&explored.clip, explored.states), (&clip, states), "{f:?}");
+            if clip.is_none() {
+                // Clips of at most the horizon and one frame reach all states.
+                let short = count_states(&f, &bytes, Some(f.horizon() + 2));
+                assert_eq!(short, states, "{f:?}");
+            }
 
             most = most.max(states);
             match &clip {
@@ -122,28 +169,40 @@ mod tests {
             // A table of just so many records, of a byte less, and of any length.
             let enough = states * RECORD;
             for table in [enough, enough - 1, random.between(0, 2 * enough)] {
-                let mut after = vec![9; table];
-                let mut witness = vec![9; f.horizon() + 1];
-                let answer = search(&write(&f), &mut after, &mut witness);
-                let (expected, frames) = match &clip {
-                    _ if table < enough => {
-                        let (number, place) = (15, 0);
-                        (Err(Refusal { number, place }), &[][..])
-                    }
-                    Some(clip) => {
-                        let length = clip.len();
-                        (Ok(Answer::Met { length, states }), &clip[..])
-                    }
-                    None => (Ok(Answer::None { states }), &[][..]),
-                };
-                assert_eq!(answer, expected, "{f:?}");
-                assert!(after.iter().all(|&byte| byte == 0), "{f:?}");
-                let (first, left) = witness.split_at(frames.len());
-                assert_eq!(first, frames, "{f:?}");
-                assert!(left.iter().all(|&byte| byte == 9), "{f:?}");
+                search_agrees(&f, &clip, states, table);
             }
         }
         assert!(met[1..].iter().all(|&count| count > 10), "{met:?}");
         assert!(none > 800 && most > 100, "{none}, {most}");
+    }
+
+    #[test]
+    fn the_search_finds_what_every_clip_of_all_bytes_says() {
+        let all: Vec<u8> = (0..=255).collect();
+        let mut random = Random::new(2);
+        // No clip, and clips of one and of two frames.
+        let mut lengths = [0; 3];
+        let mut most = 0;
+        for turn in 0..60 {
+            let f = short_formula(&mut random, turn % 2);
+            let clip = first_clip(&f, &all);
+            // Without a clip, those of at most the horizon and one frame reach all
+            // states: so many frames decide every register.
+            let frames = clip.as_ref().map_or(f.horizon() + 2, Vec::len);
+            let states = count_states(&f, &all, Some(frames));
+            for bytes in [&all, &bytes_of_flags(&f)] {
+                let explored = explore(&emit(&f), bytes, usize::MAX);
+                assert_eq!((&explored.clip, explored.states), (&clip, states), "{f:?}");
+            }
+            let enough = states * RECORD;
+            for table in [enough, enough - 1] {
+                search_agrees(&f, &clip, states, table);
+            }
+
+            lengths[clip.map_or(0, |clip| clip.len())] += 1;
+            most = most.max(states);
+        }
+        assert!(lengths.iter().all(|&count| count > 8), "{lengths:?}");
+        assert!(most >= 4, "{most}");
     }
 }

@@ -17,7 +17,7 @@ use crate::write::write;
 /// The bytes that the buffers are full of.
 const FILLS: [u8; 3] = [0xff, 0x00, 0xa5];
 
-/// Rules with different numbers of states, 1 to 271, that are met or not.
+/// Rules of 1 to 271 states, met or not.
 const COUNTED: [&str; 21] = [
     "12 00",
     "11",

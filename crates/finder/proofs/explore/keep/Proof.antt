@@ -31,13 +31,13 @@ same-length : tie.Need-same-length
 same-length c = search needs
 
 returns : tie.Need-returns
-returns c = keeping-full _ _ _ _ _ _ (nowhere (c .before .before)) (c .if1 .taken)
+returns c = keeping-full _ _ _ _ _ _ (nowhere (c .before .before)) (omega (arith, c .if1 .taken))
 
 add-store : tie.Need-add-store
 add-store c = omega (arith, most (c .before .before .before .before .before .before .before .before))
 
 store-requires : tie.Need-store-requires
-store-requires c κs = (next-fits (c .before .before .before .before .before .before .before .before .pre .2 .exploring) (c .before .if1 .left), most (c .before .before .before .before .before .before .before .before))
+store-requires c κs = (next-fits (c .before .before .before .before .before .before .before .before .pre .2 .exploring) (omega (arith, c .before .if1 .left)), most (c .before .before .before .before .before .before .before .before))
 
 add-t15 : tie.Need-add-t15
 add-t15 c = omega (arith, c .before .before .before .before .before .if1 .left, c .before .before .before .before .before .before .before .before .before .before .before .before .pre .2 .exploring .holds .most)
@@ -52,7 +52,7 @@ same-length-3 : tie.Need-same-length-3
 same-length-3 c = search needs
 
 returns-3 : tie.Need-returns-3
-returns-3 c = keeping-new _ _ _ _ _ _ (nowhere (c .before .before .before .before .before .before .before)) (c .before .before .before .before .before .if1 .left) _ (c .before .before .before .store .ensures)
+returns-3 c = keeping-new _ _ _ _ _ _ (nowhere (c .before .before .before .before .before .before .before)) (omega (arith, c .before .before .before .before .before .if1 .left)) _ (c .before .before .before .store .ensures)
 
 pub keep-spec : {M : Type 1} → statement M
 keep-spec =

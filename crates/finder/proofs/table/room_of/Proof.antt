@@ -1,6 +1,6 @@
 -- `room_of` meets its contract: its test takes the lesser of the two numbers.
 use native.Mathlib.Omega.{arith}
-use Rattle.finder.specs.Records.{roomOf}
+use Rattle.finder.specs.Finding.{roomOf}
 use Rattle.finder.proofs.table.room_of.Statement.{statement}
 use Rattle.finder.proofs.table.room_of.Tie as tie
 
