@@ -1,11 +1,9 @@
 -- Demand 2. What `search` says of an accepted rule is a right answer in the paper's meaning, and of the three kinds of answer only one is right: so "no room" and "none" come exactly
 -- where the demand has them. The first clip that satisfies has at most horizon + 1 frames, so it stands within the witness buffer.
 use mathlib.Core.Path.{_≡_, refl, ap}
-use mathlib.Core.Bool.{false}
 use mathlib.Core.List.{List}
 use Prim.Native.Nat.{ℕ, _+_, _≤_}
 use native.Mathlib.Omega.{arith}
-use borrow.Author.Tests.{le-ltb}
 use lib.ListN.{length, take, replicate}
 use lib.Seq.{take-at, drop-at}
 use Rattle.reading.specs.Buffers.{over}
@@ -18,9 +16,9 @@ use Rattle.emitter.specs.Translation.{codeFor}
 use Rattle.paths.specs.Answers.{Answer, met, none, noRoom, Right}
 use Rattle.paths.proofs.Counting.{not-within}
 use Rattle.finder.specs.Demand.{Demanded, DemandTwo}
-use Rattle.finder.specs.Finding.{roomOf, foundOf, witnessAfter, Answers, shortWitness, SearchSays}
+use Rattle.finder.specs.Finding.{roomOf, foundOf, witnessAfter, SearchSays}
 use Rattle.finder.specs.declared.search.Found.{Found}
-use Rattle.finder.proofs.Finding.{first-short}
+use Rattle.finder.proofs.Finding.{first-short, answers-said}
 use Rattle.finder.proofs.search.search.Reads as search
 
 -- The contract is what the function ensures
@@ -73,6 +71,5 @@ module _ (f : Formula) (table witness : List ℕ) (room : horizon f + 1 ≤ leng
 
 pub demand-two : DemandTwo
 demand-two rule table witness is f reads room r table′ witness′ says =
-    let l : shortWitness f witness ≡ false = le-ltb (length witness) (horizon f + 1) room in
-    let a : Answers (codeFor f) (Holds f) table witness r table′ witness′ = rw (reads, l) at says in
+    let a = answers-said rule table witness is f reads room r table′ witness′ says in
     demanded-of f table witness room (a .answer) (a .right) r table′ witness′ (a .own-answer) (a .own-table) (a .own-witness)

@@ -196,3 +196,10 @@ module _ (rule : List ℕ) (answer : Loaded) (own : answer ≡ loadedOf (readRul
             let (is, f, reads, many, near) = rule-read in
             let l : shortWitness f witness ≡ false = le-ltb (length witness) (horizon f + 1) (omega arith) in
             rw (reads, l) (answers is f reads)
+
+-- What it says of an accepted rule and a witness buffer that is long enough is a right answer
+pub answers-said : (rule table witness : List ℕ) (is : Items) (f : Formula) → readRule rule ≡ accepted is f → horizon f + 1 ≤ length witness
+    → (r : Found) (table′ witness′ : List ℕ) → SearchSays (readRule rule) table witness r table′ witness′ → Answers (codeFor f) (Holds f) table witness r table′ witness′
+answers-said rule table witness is f reads long r table′ witness′ says =
+    let l : shortWitness f witness ≡ false = le-ltb (length witness) (horizon f + 1) long in
+    rw (reads, l) at says

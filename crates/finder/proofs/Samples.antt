@@ -4,9 +4,9 @@ use mathlib.Core.Path.{_≡_, refl, sym, ap, _∙_}
 use mathlib.Core.Bool.{Bool, true, false, Bool·beq, _&&_, false≢true, and-eq-true-iff}
 use mathlib.Core.List.{List, [], _∷_}
 use mathlib.Core.Logic.{_↔_}
-use Prim.Native.Nat.{ℕ, zero, suc, _+_, _≤_}
+use Prim.Native.Nat.{ℕ, zero, suc, _≤_}
 use native.Mathlib.Omega.{arith}
-use borrow.Author.Tests.{ltb-true, le-ltb, eqb-true, eq-eqb}
+use borrow.Author.Tests.{ltb-true, eqb-true, eq-eqb}
 use lib.Dec.{eqb, ltb}
 use lib.ListN.{length}
 use Rattle.reading.specs.Buffers.{byteValues, AllBytes}
@@ -37,10 +37,10 @@ use Rattle.paths.specs.Answers.{Answer, met, none, noRoom}
 use Rattle.paths.specs.Model.{Machine, after, Hits, Ended, ended, unfinished, modelled}
 use Rattle.paths.proofs.Model.{model-right}
 use Rattle.paths.proofs.Unique.{one-answer, right-alike}
-use Rattle.finder.specs.Finding.{statesOf, foundOf, witnessAfter, Answers, shortWitness}
+use Rattle.finder.specs.Finding.{statesOf, foundOf, witnessAfter}
 use Rattle.finder.specs.Samples.{Sample, searches, refuses, judges, emits, Right, samples}
 use Rattle.finder.proofs.Exploring.{output-step}
-use Rattle.finder.proofs.Finding.{hits-holds}
+use Rattle.finder.proofs.Finding.{hits-holds, answers-said}
 
 -- Whether two lists are the same, by a test of their elements
 module _ {A : Type 0} (test : A → A → Bool) where
@@ -147,8 +147,7 @@ module _ (rule : List ℕ) (is : Items) (f : Formula) (bytes : areBytes rule ≡
   searches-right h fuel a near some e = (
     (length is, rw (reads, near)),
     λ table witness room long r table′ witness′ says.
-        let l : shortWitness f witness ≡ false = le-ltb (length witness) (horizon f + 1) (omega arith) in
-        let given : Answers (codeFor f) (Holds f) table witness r table′ witness′ = rw (reads, l) at says in
+        let given = answers-said rule table witness is f reads (omega arith) r table′ witness′ says in
         let one = one-answer _ _ _ (given .answer) a (given .right) (more-room _ _ _ a some room (model-answers (statesOf (foundOf a)) fuel a e)) in
         (given .own-answer ∙ ap foundOf one, given .own-table, given .own-witness ∙ ap (λ b. witnessAfter b witness) one),
   )

@@ -20,14 +20,14 @@ same-advanced a e = λ i. record { bit = sym e i; registers = a .registers }
 
 module _ (numbers : List ℕ) (n room ended : ℕ) where
   -- Before a state: no trial has satisfied
-  pub record States (table₀ table : List ℕ) (k : ℕ) (kept : Kept) (hit : Bool) : Type 0 where
+  pub record BeforeState (table₀ table : List ℕ) (k : ℕ) (kept : Kept) (hit : Bool) : Type 0 where
     pub sound : Sound numbers n
     pub same : length table ≡ length table₀
     pub missed : hit ≡ false
     pub exploring : Exploring (codeIn numbers n) room table k 0 ended kept
 
   -- Before a frame byte with a state, whose registers are read
-  pub record Bytes (r : Registers) (table₀ table : List ℕ) (k b : ℕ) (kept : Kept) (hit : Bool) : Type 0 where
+  pub record BeforeByte (r : Registers) (table₀ table : List ℕ) (k b : ℕ) (kept : Kept) (hit : Bool) : Type 0 where
     pub sound : Sound numbers n
     pub same : length table ≡ length table₀
     pub missed : hit ≡ false
@@ -35,13 +35,13 @@ module _ (numbers : List ℕ) (n room ended : ℕ) where
     pub own : KeptBy (recordAt table k) r
     pub exploring : Exploring (codeIn numbers n) room table k b ended kept
 
-  pub states-first : (table : List ℕ) (k : ℕ) (kept : Kept) → Tries numbers n room table k ended kept → States table table k kept false
+  pub states-first : (table : List ℕ) (k : ℕ) (kept : Kept) → Tries numbers n room table k ended kept → BeforeState table table k kept false
   states-first table k kept t = record { sound = t .sound; same = refl; missed = refl; exploring = t .exploring }
 
-  pub bytes-first : (table₀ table : List ℕ) (k : ℕ) (kept : Kept) (hit : Bool) → States table₀ table k kept hit → k < ended → (r : Registers) → KeptBy (recordAt table k) r → Bytes r table table k 0 kept hit
+  pub bytes-first : (table₀ table : List ℕ) (k : ℕ) (kept : Kept) (hit : Bool) → BeforeState table₀ table k kept hit → k < ended → (r : Registers) → KeptBy (recordAt table k) r → BeforeByte r table table k 0 kept hit
   bytes-first table₀ table k kept hit s more r own = record { sound = s .sound; same = refl; missed = s .missed; more = more; own = own; exploring = s .exploring }
 
-  module _ {r : Registers} {table₀ table : List ℕ} {k b : ℕ} {kept : Kept} {hit : Bool} (s : Bytes r table₀ table k b kept hit) (byte : b < frameBytes) (a : Advanced) (own : a ≡ advancedBy (codeIn numbers n) b r) where
+  module _ {r : Registers} {table₀ table : List ℕ} {k b : ℕ} {kept : Kept} {hit : Bool} (s : BeforeByte r table₀ table k b kept hit) (byte : b < frameBytes) (a : Advanced) (own : a ≡ advancedBy (codeIn numbers n) b r) where
     -- the trial does not satisfy
     pub misses : a .bit ≡ false → Misses (codeIn numbers n) room table k b ended kept (a .registers)
     misses e =
@@ -53,7 +53,7 @@ module _ (numbers : List ℕ) (n room ended : ℕ) where
           missed = λ t keeps. same-advanced a e ∙ own ∙ ap (advancedBy (codeIn numbers n) b) (s .own t keeps);
         }
 
-    pub bytes-more : a .bit ≡ false → (after : List ℕ) (next : Kept) → length after ≡ length table → Keeping room table after k b kept (a .registers) next → (b′ : ℕ) → b + 1 ≡ b′ → Bytes r table₀ after k b′ next hit
+    pub bytes-more : a .bit ≡ false → (after : List ℕ) (next : Kept) → length after ≡ length table → Keeping room table after k b kept (a .registers) next → (b′ : ℕ) → b + 1 ≡ b′ → BeforeByte r table₀ after k b′ next hit
     bytes-more e after next same keeping b′ one =
         let (exploring, record-same) = keeping _ _ (misses e) in
         record { sound = s .sound; same = same ∙ s .same; missed = s .missed; more = s .more; own = rw record-same (s .own); exploring = subst (λ i. Exploring (codeIn numbers n) room after k i ended next) one exploring }
@@ -63,12 +63,12 @@ module _ (numbers : List ℕ) (n room ended : ℕ) where
     bytes-met e = to-met (s .exploring) (s .sound .good) (s .more) byte λ t keeps. sym (ap (λ x. x .bit) (own ∙ ap (advancedBy (codeIn numbers n) b) (s .own t keeps))) ∙ e
 
   -- all bytes are tried
-  pub states-more : (r : Registers) (table₀ table after : List ℕ) (k b : ℕ) (kept : Kept) (hit : Bool) → length table ≡ length table₀ → Bytes r table after k b kept hit → b ≡ frameBytes → States table₀ after (k + 1) kept hit
+  pub states-more : (r : Registers) (table₀ table after : List ℕ) (k b : ℕ) (kept : Kept) (hit : Bool) → length table ≡ length table₀ → BeforeByte r table after k b kept hit → b ≡ frameBytes → BeforeState table₀ after (k + 1) kept hit
   states-more r table₀ table after k b kept hit same s all =
       record { sound = s .sound; same = s .same ∙ same; missed = s .missed; exploring = to-next-state (s .exploring) (s .more) all }
 
   -- all states are tried
-  pub states-all : (table₀ table : List ℕ) (k frame : ℕ) (kept : Kept) (hit : Bool) → States table₀ table k kept hit → ended ≤ k → TriedTo (codeIn numbers n) room table ended k frame kept hit
+  pub states-all : (table₀ table : List ℕ) (k frame : ℕ) (kept : Kept) (hit : Bool) → BeforeState table₀ table k kept hit → ended ≤ k → TriedTo (codeIn numbers n) room table ended k frame kept hit
   states-all table₀ table k frame kept hit s all =
       let e : k ≡ ended = omega (arith, s .exploring .searching .upto) in
       rw (s .missed) (subst (λ i. Exploring (codeIn numbers n) room table i 0 ended kept) e (s .exploring))

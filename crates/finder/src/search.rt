@@ -97,8 +97,8 @@ fn search_rule(rule: &[u8], table: &mut [u8], witness: &mut [u8]) -> Found
     }
 }
 
-// Searches for a clip that satisfies a rule: the first one, in the witness buffer from its first byte on, or that there is none. The table is all
-// zero then, and after refusal 15; a refusal of the rule, then 14, changes nothing.
+// Searches for a clip that satisfies a rule: shows the first one, in the witness buffer from its first byte on, or says that there is none. The table
+// is all zero then, and after refusal 15; a refusal of the rule, then 14, changes nothing.
 pub fn search(rule: &[u8], table: &mut [u8], witness: &mut [u8]) -> Found
     ensures { λ r. ⌜ SearchSays (readRule (now (rule .entry))) (now (table .entry)) (now (witness .entry)) r (now (table .exit)) (now (witness .exit)) ⌝ }
 {

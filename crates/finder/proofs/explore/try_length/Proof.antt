@@ -1,4 +1,4 @@
--- `try_length` meets its contract. The outer loop's invariant is `States`, the inner one's `Bytes`; the measures are the states and the bytes that are not tried yet. The way out by the label has
+-- `try_length` meets its contract. The outer loop's invariant is `BeforeState`, the inner one's `BeforeByte`; the measures are the states and the bytes that are not tried yet. The way out by the label has
 -- a trial that satisfies.
 use mathlib.Core.Path.{refl, ap, _∙_}
 use mathlib.Core.Logic.{inl, inr}
@@ -8,13 +8,13 @@ use lib.ListN.{length}
 use Rattle.paths.specs.Searching.{frameBytes}
 use Rattle.finder.proofs.Exploring.{state-fits}
 use Rattle.finder.proofs.Tables.{record-length}
-use Rattle.finder.proofs.Trying.{States, Bytes, states-first, bytes-first, misses, bytes-more, bytes-met, states-more, states-all}
+use Rattle.finder.proofs.Trying.{BeforeState, BeforeByte, states-first, bytes-first, misses, bytes-more, bytes-met, states-more, states-all}
 use Rattle.finder.proofs.explore.try_length.Statement.{statement}
 use Rattle.finder.proofs.explore.try_length.Tie as tie
 
 abbrev Inv-loop : tie.InvT-loop
 Inv-loop numbers count table₀ room first ended kept₀ hit₀ tried₀ state registers frame₀ table kept hit tried frame =
-    Bytes numbers count room ended registers table₀ table state frame kept hit × (frame < frameBytes)
+    BeforeByte numbers count room ended registers table₀ table state frame kept hit × (frame < frameBytes)
 
 abbrev μ-loop : tie.MeasureT-loop
 μ-loop numbers count table₀ room first ended kept₀ hit₀ tried₀ state registers frame₀ table kept hit tried frame =
@@ -22,7 +22,7 @@ abbrev μ-loop : tie.MeasureT-loop
 
 abbrev Inv-all : tie.InvT-all
 Inv-all numbers count table₀ room first ended kept₀ hit₀ tried₀ state₀ table kept hit tried state =
-    States numbers count room ended table₀ table state kept hit
+    BeforeState numbers count room ended table₀ table state kept hit
 
 abbrev μ-all : tie.MeasureT-all
 μ-all numbers count table₀ room first ended kept₀ hit₀ tried₀ state₀ table kept hit tried state = ended - state
@@ -60,7 +60,7 @@ loop-again c = (bytes-more _ _ _ _ (c .before .before .before .before .before .b
 all-bytes : (c : tie.Left-loop Inv-loop μ-loop Inv-all μ-all)
     → let start = c .before .before .before .before .before .before .before .before .before in
     let state = c .before .before .before .before .before .before in
-    Bytes (start .args .numbers .now) (start .args .count) (start .args .room) (start .args .ended) (c .before .before .registers-of .result) (state .all .table) (c .loop-test .table) (state .all .state) frameBytes (c .loop-test .kept) (c .before .loop .hit)
+    BeforeByte (start .args .numbers .now) (start .args .count) (start .args .room) (start .args .ended) (c .before .before .registers-of .result) (state .all .table) (c .loop-test .table) (state .all .state) frameBytes (c .loop-test .kept) (c .before .loop .hit)
 all-bytes c = elim (c .loop-test .came) [ inl x ↦ absurd (omega (arith, x .0 .left, c .before .loop .inv .1)) | inr x ↦ rw (x .8, x .9) (bytes-more _ _ _ _ (c .before .loop .inv .0) (c .before .loop .inv .1) _ (x .1 .ensures) (x .2 .left) _ _ (x .5 .given) (x .4 .ensures) _ (omega (arith, x .7 .left, c .before .loop .inv .1))) ]
 
 add-state : tie.Need-add-state Inv-loop μ-loop Inv-all μ-all
