@@ -20,9 +20,10 @@ use Rattle.sequencer.specs.Loading.{distanceOf, reachesIn, distanceIn, readCode
 use Rattle.sequencer.specs.Rows.{rowOf}
 use Rattle.sequencer.proofs.Complete.{code-read}
 use Rattle.sequencer.proofs.Counting.{reaches-more, distance-more, good-none, good-more}
+use Rattle.sequencer.proofs.Instructions.{code-length}
 use Rattle.emitter.specs.Emitting.{mostInstructions, mostCodeBytes}
 use Rattle.emitter.specs.Translation.{laterBy, timed, itemCode, behind, afterOne, afterTwo, translate, codeFor, codeBytes}
-use Rattle.emitter.proofs.Sizes.{Earlier, Grown, grown, code-length}
+use Rattle.emitter.proofs.Sizes.{Earlier, Grown, grown}
 
 -- An instruction whose own numbers no test refuses, where so many are earlier
 abbrev Fits : ℕ → Instruction → Type 0

@@ -25,12 +25,13 @@ use Rattle.rules.proofs.Accepted.{accepted-rule, made, loaded-accepted, loaded-
 use Rattle.rules.proofs.Prefixes.{values-few, operands-there, whole-prefix}
 use Rattle.rules.proofs.Stack.{timed-append}
 use Rattle.sequencer.specs.Code.{bytesOf}
+use Rattle.sequencer.proofs.Instructions.{code-length}
 use Rattle.emitter.specs.Emission.{stackCode, itemsIn, Ready, Emits}
 use Rattle.emitter.specs.Emitting.{mostCodeBytes, bytesFor, emittedOf}
 use Rattle.emitter.specs.Translation.{codeBytes}
 use Rattle.emitter.specs.declared.emit.Emitted.{Emitted}
 use Rattle.emitter.proofs.Accepted.{code-bytes}
-use Rattle.emitter.proofs.Sizes.{stack-length, stack-reaches, code-length}
+use Rattle.emitter.proofs.Sizes.{stack-length, stack-reaches}
 use Rattle.emitter.proofs.Waiting.{item-back, items-prefix, items-back}
 
 -- a rule that is loaded, and accepted with so many items

@@ -5,16 +5,14 @@ use mathlib.Core.List.{List, [], _∷_, _++_, append-assoc}
 use Prim.Native.Nat.{ℕ, zero, suc, _+_, _*_, _≤_, _<_}
 use native.Mathlib.Omega.{arith}
 use lib.ListN.{length, length-append}
-use Rattle.reading.specs.InTurn.{bytesOfAll}
-use Rattle.reading.proofs.Numbers.{number-length}
 use Rattle.rules.specs.Formula.{Formula}
 use Rattle.rules.specs.Good.{postfix, postfixes}
 use Rattle.rules.specs.Items.{rowOf}
 use Rattle.rules.specs.Loading.{Items, timedIn, lowerIn}
 use Rattle.rules.specs.declared.item.Item.{Item}
 use Rattle.rules.proofs.Stack.{timed-append, lower-append}
-use Rattle.sequencer.specs.Code.{Instruction, One, Flag, Nand, Reach, Later, Code, bytesOf}
-use Rattle.sequencer.specs.Loading.{reachOf, reachesIn, distanceIn}
+use Rattle.sequencer.specs.Code.{Code}
+use Rattle.sequencer.specs.Loading.{reachesIn, distanceIn}
 use Rattle.sequencer.proofs.Counting.{reaches-append, distance-append}
 use Rattle.emitter.specs.Emission.{stackCode}
 use Rattle.emitter.specs.Translation.{laterBy, timed, itemCode, behind, translate}
@@ -99,17 +97,3 @@ pub stack-reaches : (st : List Formula) → reachesIn (stackCode st) ≡ timedIn
 unfolding stackCode postfixes timedIn reachesIn
 stack-reaches [] = omega arith
 stack-reaches (f ∷ st) = let g = grown (stackCode st) f in rw timed-append (omega (arith, stack-reaches st))
-
--- The bytes of code: five of an instruction at most, and two more of a REACH
-instruction-length : (i : Instruction) → length (bytesOf i) ≤ 5 + 2 * reachOf i
-unfolding bytesOf
-instruction-length One = omega arith
-instruction-length (Flag k) = omega (arith, number-length k)
-instruction-length (Nand i j) = simp length-append (omega (arith, number-length i, number-length j))
-instruction-length (Reach i j w) = simp length-append (omega (arith, number-length i, number-length j, number-length w))
-instruction-length (Later i d) = simp length-append (omega (arith, number-length i, number-length d))
-
-pub code-length : (code : Code) → length (bytesOfAll bytesOf code) ≤ 5 * length code + 2 * reachesIn code
-unfolding bytesOfAll reachesIn
-code-length [] = omega arith
-code-length (i ∷ is) = simp length-append (omega (arith, instruction-length i, code-length is))

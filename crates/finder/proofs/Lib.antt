@@ -8,3 +8,4 @@ pub mod Finding
 pub mod Demand
 pub mod Unique
 pub mod Samples
+pub mod Small

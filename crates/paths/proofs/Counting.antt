@@ -58,3 +58,9 @@ module _ {S : Type 0} (state : Clip → S) (Meets : Clip → Type 0) where
   -- States that outnumber the room are not counted within it
   pub not-within : (n room : ℕ) → Counts state Meets n → n ≤ room → Outnumber state Meets room → ⊥
   not-within n room count h more = omega (arith, at-most n (more .clips) count (more .distinct))
+
+  -- The fresh state is counted
+  pub fresh-counted : (n : ℕ) → Counts state Meets n → 1 ≤ n
+  fresh-counted n count =
+      let (i, inside, _) = count .all [] (record { bytes = λ i. omega arith; shorter = λ d s. s .some }) in
+      omega (arith, inside)

@@ -1,4 +1,4 @@
--- What is known of a choice that came out as its first way doesn't: the test failed, and the rest came out so. For tests in turn, each of which refuses.
+-- What is known of a choice that came out as its first way doesn't: the test failed, and the rest came out so; and of one whose ways are alike. For tests in turn, each of which refuses.
 use mathlib.Core.Path.{_≡_, refl}
 use mathlib.Core.Bool.{Bool, true, false, cond, _||_}
 use Prim.Native.Nat.{ℕ}
@@ -16,3 +16,8 @@ neither false b e = (refl, e)
 pub bool-false : (t : Bool) → (t ≡ true → ⊥) → t ≡ false
 bool-false true h = absurd (h refl)
 bool-false false h = refl
+
+-- what holds of both ways holds of the choice
+pub both-ways : {A : Type 0} (P : A → Type 0) (t : Bool) {x y : A} → P x → P y → P (cond t x y)
+both-ways P true p q = p
+both-ways P false p q = q

@@ -10,6 +10,10 @@ module _ {A : Type 0} (P : A → Type 0) where
   each-more [] x e p = (p, tt)
   each-more (y ∷ xs) x e p = (e .0, each-more xs x (e .1) p)
 
+  pub each-joined : (xs ys : List A) → Each P xs → Each P ys → Each P (xs ++ ys)
+  each-joined [] ys d e = e
+  each-joined (x ∷ xs) ys d e = (d .0, each-joined xs ys (d .1) e)
+
   pub each-parted : (xs ys : List A) → Each P (xs ++ ys) → Each P xs × Each P ys
   each-parted [] ys e = (tt, e)
   each-parted (x ∷ xs) ys e = let (p, q) = each-parted xs ys (e .1) in ((e .0, p), q)

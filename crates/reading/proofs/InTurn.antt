@@ -1,22 +1,24 @@
 -- The walk over bytes item by item, for any kind of items. `Turn` says where a loop stands: what the walk gives from here on, after these items, is what it gives of
 -- all the bytes; each way out of a turn is a law. And bytes and items determine each other: items that are read stand there by their bytes, one behind the other,
--- and items whose bytes stand there, each judged fine in its turn, are read.
-use mathlib.Core.Path.{_≡_, refl, sym, ap, _∙_}
-use mathlib.Core.List.{List, [], _∷_, _++_, append-assoc, append-nil}
+-- and items whose bytes stand there, each judged fine in its turn, are read. A refusal has the place of its item, behind the bytes of those before it.
+use mathlib.Core.Path.{_≡_, refl, sym, ap, subst, _∙_}
+use mathlib.Core.List.{List, [], _∷_, _++_, append-assoc, append-nil, append-cancel-left}
 use mathlib.Core.Logic.{_⊎_, inl, inr, ⊎-elim, by-cases}
 use Prim.Native.Nat.{ℕ, zero, suc, _+_, _-_, _≤_, _<_}
 use native.Mathlib.Decide.{decLt}
 use native.Mathlib.Omega.{arith}
 use lib.ListN.{length, length-append, drop-of-length-le}
+use lib.Seq.{drop-append-seam}
 use Rattle.reading.specs.Buffers.{AllBytes}
 use Rattle.reading.specs.Each.{Each}
 use Rattle.reading.specs.InTurn.{Verdict, fine, bad, Kind, Walked, items, refused, afterRead, afterJudged, inTurn, walked, bytesOfAll}
 use Rattle.reading.specs.Items.{itemAt, itemBytes, numbersOf, noCode}
+use Rattle.reading.specs.Refusals.{placeOf}
 use Rattle.reading.specs.declared.item.Table.{Table}
 use Rattle.reading.specs.declared.item.Read.{Read}
 use Rattle.reading.specs.declared.refusal.Refusal.{Refusal}
 use Rattle.reading.proofs.Bytes.{Stands, Fitting, item-there, item-back, joined, parted}
-use Rattle.reading.proofs.Items.{ended, end-back}
+use Rattle.reading.proofs.Items.{ended, end-back, refused-place}
 
 -- what is read before the end lies before it
 before-end : (table : Table) (bytes : List ℕ) (at : ℕ) → (Read.End ≡ itemAt table bytes at → ⊥) → at < length bytes
@@ -92,20 +94,10 @@ module _ {A : Type 0} (kind : Kind A) where
             rest = rw (left .1, ← read, ← own, ← e) at (t .rest);
           }
 
--- a refusal is not items
-differ : {A B : Type 0} {r : Refusal} {is : List A} → refused r ≡ items is → B
-differ e = absurd (let z : _≡_ {A = ℕ} 0 1 = cc in omega arith)
-
-module _ {A : Type 0} {js : List A} where
-  -- where the walk gives items, no turn refuses them
-  read-on : (r : Read) (end : Walked A) (more : ℕ → ℕ → ℕ → ℕ → ℕ → Walked A) → afterRead r end more ≡ items js → ((r ≡ Read.End) × (end ≡ items js)) ⊎ ((code : ℕ) × (i : ℕ) × (j : ℕ) × (k : ℕ) × (next : ℕ) × (r ≡ Read.Item code i j k next) × (more code i j k next ≡ items js))
-  read-on (Read.Item code i j k next) end more e = inr (code, i, j, k, next, refl, e)
-  read-on Read.End end more e = inl (refl, e)
-  read-on (Read.Refused x) end more e = differ e
-
-  judged-on : (v : Verdict) (more : Walked A) → afterJudged v more ≡ items js → (v ≡ fine) × (more ≡ items js)
-  judged-on fine more e = (refl, e)
-  judged-on (bad r) more e = differ e
+-- a refusal of the item at a place has this place
+abbrev pub Placed : ℕ → Verdict → Type 0
+Placed at fine = Unit {0}
+Placed at (bad r) = placeOf r ≡ at
 
 -- each of these items is judged fine, wherever it stands, after those before it
 abbrev pub Passes : {A : Type 0} → Kind A → List A → List A → Type 0
@@ -130,50 +122,80 @@ bytes-append own (i ∷ is) js = rw (bytes-append own is js, append-assoc)
 
 module _ {A : Type 0} (kind : Kind A) (own : A → List ℕ) where
   module _ (P : List A → Type 0) (none : P []) (more : (is : List A) (at : ℕ) (i : A) → P is → kind .judge is at i ≡ fine → P (is ++ i ∷ [])) (same : (code i j k : ℕ) → numbersOf (kind .table) code < noCode → itemBytes (kind .table) code i j k ≡ own (kind .make code i j k)) where
-    module _ (bytes : List ℕ) (small : AllBytes bytes) (js : List A) where
+    module _ (bytes : List ℕ) (small : AllBytes bytes) where
       -- the items so far have the property, and their bytes are those before the place
       record So-far (at : ℕ) (is : List A) : Type 0 where
         holds : P is
         stands : Stands bytes 0 (bytesOfAll own is) at
 
-      at-end : (at : ℕ) (is : List A) → So-far at is → length bytes ≤ at → items is ≡ items js → P js × (bytes ≡ bytesOfAll own js)
-      at-end at is s h e =
-          let i : is ≡ js = cc in
-          let b : bytes ≡ bytesOfAll own is = s .stands .here ∙ rw (drop-of-length-le bytes h, append-nil) in
-          rw i at (let r : P is × (bytes ≡ bytesOfAll own is) = (s .holds, b) in r)
+      -- at a place behind some items the reader refuses, or the judge does
+      record Stop (r : Refusal) : Type 0 where
+        at : ℕ
+        before : List A
+        so-far : So-far at before
+        why : (itemAt (kind .table) bytes at ≡ Read.Refused r) ⊎ ((i : A) × (kind .judge before at i ≡ bad r))
 
-      from : (n at : ℕ) (is : List A) → So-far at is → length bytes - at ≤ n → inTurn kind n bytes at is ≡ items js → P js × (bytes ≡ bytesOfAll own js)
+      -- how the walk comes out: at the end the bytes of the items so far are all the bytes
+      abbrev Ends : Walked A → Type 0
+      Ends (items js) = P js × (bytes ≡ bytesOfAll own js)
+      Ends (refused r) = Stop r
+
+      at-end : (at : ℕ) (is : List A) → So-far at is → length bytes ≤ at → Ends (items is)
+      at-end at is s h = (s .holds, s .stands .here ∙ rw (drop-of-length-le bytes h, append-nil))
+
+      from : (n at : ℕ) (is : List A) → So-far at is → length bytes - at ≤ n → Ends (inTurn kind n bytes at is)
       unfolding inTurn bytesOfAll
-      from zero at is s h e = at-end at is s (omega arith) e
-      from (suc n) at is s h e =
-          ⊎-elim
-          (λ q. at-end at is s (end-back (kind .table) bytes at (q .0)) (q .1))
-          (λ q.
-          let (code, i, j, k, next, read, further) = q in
-          let item = kind .make code i j k in
-          let (judged, rest) = judged-on (kind .judge is at item) _ further in
-          let (fits, stands) = item-back (kind .table) bytes at code i j k next small read in
-          let t : So-far next (is ++ item ∷ []) =
-          record {
-            holds = more is at item (s .holds) judged;
-            stands = rw (bytes-append, append-nil) (joined bytes 0 (s .stands) (rw (same code i j k (fits .known)) at stands));
-          } in
-          from n next (is ++ item ∷ []) t (omega (arith, forward (kind .table) bytes at code i j k next small (sym read))) rest)
-          (read-on (itemAt (kind .table) bytes at) _ _ e)
+      from zero at is s h = at-end at is s (omega arith)
+      from (suc n) at is s h = read (from n) (itemAt (kind .table) bytes at) refl
+        where
+          judged : (i : A) (rest : Walked A) (v : Verdict) → kind .judge is at i ≡ v → (v ≡ fine → Ends rest) → Ends (afterJudged v rest)
+          judged i rest fine e on = on refl
+          judged i rest (bad r) e on = record { at = at; before = is; so-far = s; why = inr (i, e) }
+
+          read : ((next : ℕ) (js : List A) → So-far next js → length bytes - next ≤ n → Ends (inTurn kind n bytes next js))
+              → (r : Read) → itemAt (kind .table) bytes at ≡ r
+              → Ends (afterRead r (items is) λ code i j k next.
+              afterJudged (kind .judge is at (kind .make code i j k)) (inTurn kind n bytes next (is ++ kind .make code i j k ∷ [])))
+          read on (Read.Item code i j k next) e =
+              let item = kind .make code i j k in
+              let (fits, stands) = item-back (kind .table) bytes at code i j k next small e in
+              let all : Stands bytes 0 (bytesOfAll own (is ++ item ∷ [])) next =
+              rw (bytes-append, append-nil) (joined bytes 0 (s .stands) (rw (same code i j k (fits .known)) at stands)) in
+              judged item _ (kind .judge is at item) refl λ f.
+              on next (is ++ item ∷ []) (record { holds = more is at item (s .holds) f; stands = all })
+              (omega (arith, forward (kind .table) bytes at code i j k next small (sym e)))
+          read on Read.End e = at-end at is s (end-back (kind .table) bytes at e)
+          read on (Read.Refused r) e = record { at = at; before = is; so-far = s; why = inl e }
+
+      all-turns : (length bytes ≡ 0 → ⊥) → Ends (walked kind bytes)
+      unfolding bytesOfAll
+      all-turns h =
+          let t = turn-first kind bytes h in
+          let start : Stands bytes 0 [] 0 = record { here = refl; behind = refl; inside = omega arith } in
+          subst Ends (t .rest) (from (t .turns) 0 [] (record { holds = none; stands = start }) (t .enough))
 
     -- the items that are read: one at least, with a property that each item judged fine keeps, and their bytes are all the bytes
     pub walked-back : (bytes : List ℕ) (is : List A) → AllBytes bytes → walked kind bytes ≡ items is → P is × (bytes ≡ bytesOfAll own is) × (1 ≤ length is)
     unfolding bytesOfAll
-    walked-back [] is small e = differ (none-refused kind [] refl ∙ e)
+    walked-back [] is small e = absurd (let z : _≡_ {A = ℕ} 0 1 = cc (none-refused kind [] refl) in omega arith)
     walked-back (b ∷ bytes) is small e =
-        let t = turn-first kind (b ∷ bytes) (λ h. omega arith) in
-        let start : Stands (b ∷ bytes) 0 [] 0 = record { here = refl; behind = refl; inside = omega arith } in
-        let (p, all) = from (b ∷ bytes) small is (t .turns) 0 [] (record { holds = none; stands = start }) (t .enough) (t .rest ∙ e) in
+        let (p, all) = subst (Ends (b ∷ bytes) small) e (all-turns (b ∷ bytes) small (λ h. omega arith)) in
         (p, all, some is all)
       where
         some : (js : List A) → b ∷ bytes ≡ bytesOfAll own js → 1 ≤ length js
         some [] e = absurd (omega (arith, ap length e))
         some (i ∷ js) e = omega arith
+
+    -- a refusal lies no further than items with the property have bytes
+    pub walked-place : (most : ℕ) → ((is : List A) → P is → length (bytesOfAll own is) ≤ most)
+        → ((is : List A) (at : ℕ) (i : A) → Placed at (kind .judge is at i))
+        → (bytes : List ℕ) (r : Refusal) → AllBytes bytes → walked kind bytes ≡ refused r → placeOf r ≤ most
+    walked-place most few placed [] r small e = let empty : r ≡ Refusal.Empty = cc (none-refused kind [] refl) in rw empty (omega arith)
+    walked-place most few placed (b ∷ bytes) r small e =
+        let s = subst (Ends (b ∷ bytes) small) e (all-turns (b ∷ bytes) small (λ h. omega arith)) in
+        let place : placeOf r ≡ s .at =
+        ⊎-elim (refused-place (kind .table) (b ∷ bytes) (s .at) r) (λ q. subst (Placed (s .at)) (q .1) (placed (s .before) (s .at) (q .0))) (s .why) in
+        omega (arith, few (s .before) (s .so-far .holds))
 
   -- an item has a byte at least, so the turns suffice
   turns-suffice : (is : List A) → Each (Numbered kind own) is → length is ≤ length (bytesOfAll own is)
@@ -182,23 +204,58 @@ module _ {A : Type 0} (kind : Kind A) (own : A → List ℕ) where
   turns-suffice (i ∷ is) e =
       simp length-append (omega (arith, ap length (e .0 .same), turns-suffice is (e .1)))
 
+  -- what the judge alone gives of the items that stand ahead at a place, after those before them
+  abbrev pub judgedFrom : ℕ → List A → List A → Walked A
+  judgedFrom at before [] = items before
+  judgedFrom at before (i ∷ is) = afterJudged (kind .judge before at i) (judgedFrom (at + length (own i)) (before ++ i ∷ []) is)
+
   -- turn by turn the items that stand ahead are read
-  ahead : (bytes : List ℕ) (n at : ℕ) (is js : List A) → length js ≤ n → Stands bytes at (bytesOfAll own js) (length bytes) → Passes kind is js → Each (Numbered kind own) js → inTurn kind n bytes at is ≡ items (is ++ js)
+  ahead : (bytes : List ℕ) (n at : ℕ) (is js : List A) → length js ≤ n → Stands bytes at (bytesOfAll own js) (length bytes) → Each (Numbered kind own) js
+      → inTurn kind n bytes at is ≡ judgedFrom at is js
   unfolding inTurn bytesOfAll
-  ahead bytes zero at is [] h s p e = rw append-nil
-  ahead bytes (suc n) at is [] h s p e = rw (← ended (kind .table) bytes at (omega arith), append-nil)
-  ahead bytes zero at is (i ∷ js) h s p e = absurd (omega arith)
-  ahead bytes (suc n) at is (i ∷ js) h s p e =
+  ahead bytes zero at is [] h s e = refl
+  ahead bytes (suc n) at is [] h s e = rw (← ended (kind .table) bytes at (omega arith))
+  ahead bytes zero at is (i ∷ js) h s e = absurd (omega arith)
+  ahead bytes (suc n) at is (i ∷ js) h s e =
       let m = e .0 in
       let (here, behind) = parted bytes at (own i) (bytesOfAll own js) s in
       let read = item-there (kind .table) bytes at (m .code) (m .first) (m .second) (m .third) (at + length (own i)) (m .fits) (rw (m .same) here) in
-      rw (read, m .makes, p .0 at)
-      (rw append-assoc at (ahead bytes n (at + length (own i)) (is ++ i ∷ []) js (omega arith) behind (p .1) (e .1)))
+      rw (read, m .makes) (ap (afterJudged (kind .judge is at i)) (ahead bytes n (at + length (own i)) (is ++ i ∷ []) js (omega arith) behind (e .1)))
 
-  -- the bytes of items that pass are read as these items
-  pub walked-there : (is : List A) → 1 ≤ length is → Passes kind [] is → Each (Numbered kind own) is → walked kind (bytesOfAll own is) ≡ items is
-  walked-there is some p e =
+  -- so of the bytes of items there is what the judge gives of these
+  pub walked-judged : (is : List A) → 1 ≤ length is → Each (Numbered kind own) is → walked kind (bytesOfAll own is) ≡ judgedFrom 0 [] is
+  walked-judged is some e =
       let bytes = bytesOfAll own is in
       let t = turn-first kind bytes (λ h. omega (arith, turns-suffice is e)) in
       let s : Stands bytes 0 bytes (length bytes) = record { here = rw (drop-of-length-le bytes {i = length bytes} (omega arith), append-nil); behind = omega arith; inside = omega arith } in
-      sym (t .rest) ∙ ahead bytes (t .turns) 0 [] is (omega (arith, t .enough, turns-suffice is e)) s p e
+      sym (t .rest) ∙ ahead bytes (t .turns) 0 [] is (omega (arith, t .enough, turns-suffice is e)) s e
+
+  -- items that pass stay
+  judged-there : (at : ℕ) (is js : List A) → Passes kind is js → judgedFrom at is js ≡ items (is ++ js)
+  judged-there at is [] p = rw append-nil
+  judged-there at is (i ∷ js) p = rw (p .0 at) (rw append-assoc at (judged-there (at + length (own i)) (is ++ i ∷ []) js (p .1)))
+
+  -- the bytes of items that pass are read as these items
+  pub walked-there : (is : List A) → 1 ≤ length is → Passes kind [] is → Each (Numbered kind own) is → walked kind (bytesOfAll own is) ≡ items is
+  walked-there is some p e = walked-judged is some e ∙ judged-there 0 [] is p
+
+  -- an item whose bytes come first is read first
+  read-first : (i : A) (rest : List ℕ) (m : Numbered kind own i)
+      → itemAt (kind .table) (own i ++ rest) 0 ≡ Read.Item (m .code) (m .first) (m .second) (m .third) (length (own i))
+  read-first i rest m =
+      let s : Stands (own i ++ rest) 0 (own i) (length (own i)) =
+      record { here = rw drop-append-seam; behind = omega arith; inside = simp length-append (omega arith) } in
+      item-there (kind .table) (own i ++ rest) 0 (m .code) (m .first) (m .second) (m .third) (length (own i)) (m .fits) (rw (m .same) s)
+
+  -- so items that have the same bytes are the same
+  pub same-items : (is js : List A) → Each (Numbered kind own) is → Each (Numbered kind own) js → bytesOfAll own is ≡ bytesOfAll own js → is ≡ js
+  unfolding bytesOfAll
+  same-items [] [] d e h = refl
+  same-items [] (j ∷ js) d e h = absurd (omega (arith, turns-suffice (j ∷ js) e, ap length h))
+  same-items (i ∷ is) [] d e h = absurd (omega (arith, turns-suffice (i ∷ is) d, ap length h))
+  same-items (i ∷ is) (j ∷ js) d e h =
+      let p = read-first i (bytesOfAll own is) (d .0) in
+      let q = read-first j (bytesOfAll own js) (e .0) in
+      let here : i ≡ j = cc in
+      let rest : bytesOfAll own is ≡ bytesOfAll own js = append-cancel-left (own i) _ _ (rw (← here) at h) in
+      cc (same-items is js (d .1) (e .1) rest)

@@ -1,6 +1,6 @@
 -- Laws of `numbersFrom` and `itemAt`. `Reading` is where the reader of an item's numbers stands: what it has read is in its array, and the rest, read from here on,
 -- makes the item.
-use mathlib.Core.Path.{_≡_, refl, sym, subst, _∙_}
+use mathlib.Core.Path.{_≡_, refl, sym, subst}
 use mathlib.Core.List.{List, [], _∷_, _++_}
 use mathlib.Core.Logic.{by-cases}
 use Prim.Native.Nat.{ℕ, zero, suc, _+_, _-_, _≤_, _<_}
@@ -14,10 +14,13 @@ use Rattle.reading.specs.Each.{Each}
 use Rattle.reading.specs.Items.{Row, look, itemAt, numbersFrom, numbersOf, noCode, withNumber}
 use Rattle.reading.specs.Numbers.{numberAt}
 use Rattle.reading.specs.Padded.{padded}
+use Rattle.reading.specs.Refusals.{placeOf}
 use Rattle.reading.specs.declared.item.Table.{Table}
+use Rattle.reading.specs.declared.item.Read.{Read}
 use Rattle.reading.specs.declared.item.Read.the-variants.{Item, End, Refused}
 use Rattle.reading.specs.declared.number.Number.{Number}
 use Rattle.reading.specs.declared.number.Number.the-variants.{Value, Short, Long}
+use Rattle.reading.specs.declared.refusal.Refusal.{Refusal}
 use Rattle.reading.specs.declared.refusal.Refusal.the-variants.{UnknownCode, CutShort, NotShortest}
 use Rattle.reading.proofs.Padded.{padded-none, set-padded, getD-padded}
 
@@ -80,33 +83,41 @@ module _ (table : Table) (bytes : List ℕ) (at : ℕ) where
     unfolding itemAt
     known h = rw (drop-cons bytes at 0 inside, ← is, lt-leb noCode count h)
 
--- the numbers of an item are never the end
-never-end : (m : ℕ) (bytes : List ℕ) (at code : ℕ) (read : List ℕ) (next : ℕ) → numbersFrom m bytes at code read next ≡ End → ⊥
-unfolding numbersFrom
-never-end zero bytes at code read next e = let z : _≡_ {A = ℕ} 0 1 = cc in omega arith
-never-end (suc m) bytes at code read next e = go (numberAt bytes next) (λ n. never-end m bytes at code (read ++ n ∷ [])) e
-  where
-    go : (x : Number) → ((n behind : ℕ) → numbersFrom m bytes at code (read ++ n ∷ []) behind ≡ End → ⊥) → withNumber at x (λ n behind. numbersFrom m bytes at code (read ++ n ∷ []) behind) ≡ End → ⊥
-    go (Value n behind) more f = more n behind f
-    go Short more f = let z : _≡_ {A = ℕ} 0 1 = cc in omega arith
-    go Long more f = let z : _≡_ {A = ℕ} 0 1 = cc in omega arith
+-- before the end stands an item, or a refusal that has the item's place
+abbrev Placed : ℕ → Read → Type 0
+Placed at (Item code i j k next) = Unit {0}
+Placed at End = ⊥
+Placed at (Refused r) = placeOf r ≡ at
 
--- so the end is read at the end alone
-pub end-back : (table : Table) (bytes : List ℕ) (at : ℕ) → itemAt table bytes at ≡ End → length bytes ≤ at
-end-back table bytes at e =
-    by-cases (decLt at (length bytes))
-    (λ h. absurd (inside h))
-    (λ h. omega arith)
+numbers-placed : (m : ℕ) (bytes : List ℕ) (at code : ℕ) (read : List ℕ) (next : ℕ) → Placed at (numbersFrom m bytes at code read next)
+unfolding numbersFrom
+numbers-placed zero bytes at code read next = tt
+numbers-placed (suc m) bytes at code read next = go (numberAt bytes next) (λ n. numbers-placed m bytes at code (read ++ n ∷ []))
   where
-    inside : at < length bytes → ⊥
-    inside h =
-        let n = numbersOf table (getD bytes at 0) in
-        by-cases (decLt n noCode)
-        (λ t. never-end n bytes at (getD bytes at 0) [] (at + 1) (known table bytes at h n refl t ∙ e))
-        (λ t.
-        let u : Refused (UnknownCode at) ≡ itemAt table bytes at = unknown table bytes at h n refl (omega arith) in
-        let z : _≡_ {A = ℕ} 0 1 = cc in
-        omega arith)
+    go : (x : Number) → ((n behind : ℕ) → Placed at (numbersFrom m bytes at code (read ++ n ∷ []) behind))
+        → Placed at (withNumber at x (λ n behind. numbersFrom m bytes at code (read ++ n ∷ []) behind))
+    go (Value n behind) more = more n behind
+    go Short more = refl
+    go Long more = refl
+
+module _ (table : Table) (bytes : List ℕ) (at : ℕ) where
+  placed : at < length bytes → Placed at (itemAt table bytes at)
+  placed h =
+      let n = numbersOf table (getD bytes at 0) in
+      by-cases (decLt n noCode)
+      (λ t. subst (Placed at) (known table bytes at h n refl t) (numbers-placed n bytes at (getD bytes at 0) [] (at + 1)))
+      (λ t. subst (Placed at) (unknown table bytes at h n refl (omega arith)) refl)
+
+  -- so the end is read at the end alone
+  pub end-back : itemAt table bytes at ≡ End → length bytes ≤ at
+  end-back e = by-cases (decLt at (length bytes)) (λ h. absurd (subst (Placed at) e (placed h))) (λ h. omega arith)
+
+  -- and a refusal by the reader has the item's place
+  pub refused-place : (r : Refusal) → itemAt table bytes at ≡ Refused r → placeOf r ≡ at
+  refused-place r e =
+      by-cases (decLt at (length bytes))
+      (λ h. subst (Placed at) e (placed h))
+      (λ h. let u : End ≡ itemAt table bytes at = ended table bytes at (omega arith) in absurd (let z : _≡_ {A = ℕ} 0 1 = cc in omega arith))
 
 -- what holds of each code of a table holds of each code that the table knows
 pub by-row : (P : ℕ → Type 0) (rows : List Row) → Each (λ r. P (r .code)) rows → (code : ℕ) → look code rows < noCode → P code

@@ -2,6 +2,7 @@
 pub mod Numbers
 pub mod Padded
 pub mod Written
+pub mod Refusals
 pub mod Choices
 pub mod Items
 pub mod Bytes

@@ -1,6 +1,7 @@
 -- Each public function's statement allows one answer: two results, and two buffers left behind, that it allows of the same arguments are equal. `Post` is the
 -- function's own `ensures`.
 use mathlib.Core.Path.{_≡_, sym, _∙_}
+use Rattle.reading.proofs.buffer.write_bytes.Reads as write-bytes
 use Rattle.reading.proofs.item.read_item.Reads as read-item
 use Rattle.reading.proofs.limits.all.Reads as all
 use Rattle.reading.proofs.number.read_number.Reads as read-number
@@ -29,3 +30,6 @@ number-unique κs a r s x y p q = cc
 
 pub place-unique : (κs : _) (a : _) (r s : _) (x y : _) → place.Post κs a r x → place.Post κs a s y → r ≡ s
 place-unique κs a r s x y p q = cc
+
+pub write-bytes-unique : (κs : _) (a : _) (r s : _) (x y : _) → write-bytes.Post κs a r x → write-bytes.Post κs a s y → (r ≡ s) × (x .0 .now ≡ y .0 .now)
+write-bytes-unique κs a r s x y p q = ((p .1 ∙ sym (q .1)), (p .0 ∙ sym (q .0)))

@@ -1,15 +1,16 @@
 -- Laws of `written` and `placeAfter`: bytes that fit stand from the place on and the next place is behind them, and bytes that don't leave all as it was. As stores one by
 -- one, bytes written behind bytes are as if all were written at once.
-use mathlib.Core.Path.{_≡_}
-use mathlib.Core.List.{List, [], _∷_, _++_}
-use Prim.Native.Nat.{ℕ, suc, _+_, _≤_, _<_}
+use mathlib.Core.Path.{_≡_, sym}
+use mathlib.Core.List.{List, [], _∷_, _++_, append-assoc, append-nil}
+use Prim.Native.Nat.{ℕ, suc, _+_, _-_, _≤_, _<_}
 use native.Mathlib.Nat.{add-zero, add-assoc}
 use native.Mathlib.Decide.{decLe}
 use native.Mathlib.Omega.{arith}
 use mathlib.Core.Logic.{by-cases}
 use borrow.Author.Tests.{le-leb, lt-leb}
-use lib.ListN.{length, set, length-append}
-use lib.Seq.{sets, sets-eq, length-sets}
+use borrow.Rule.Slice.PartMut.{midOf, putMid}
+use lib.ListN.{length, take, drop, set, length-append, length-drop, drop-of-length-le}
+use lib.Seq.{sets, sets-eq, length-sets, take-all, drop-drop}
 use Rattle.reading.specs.Numbers.{written, placeAfter}
 
 module _ (buffer : List ℕ) (at : ℕ) (bytes : List ℕ) where
@@ -57,3 +58,19 @@ module _ (buffer : List ℕ) (at : ℕ) (xs ys : List ℕ) (fits : at + length (
       let (both, end) = fitting buffer at (xs ++ ys) fits in
       let (second, last) = fitting (written buffer at xs) (placeAfter buffer at xs) ys room-more in
       (rw (← second, ← first, ← place, sets-append) both, rw (← last, ← place, add-assoc) (rw length-append at end))
+
+-- what stands in a buffer once bytes that fit are written
+pub written-fitting : (buffer : List ℕ) (at : ℕ) (bytes : List ℕ) → at + length bytes ≤ length buffer → (written buffer at bytes ≡ take at buffer ++ (bytes ++ drop (at + length bytes) buffer)) × (placeAfter buffer at bytes ≡ at + length bytes)
+unfolding written placeAfter
+written-fitting buffer at bytes fits =
+    (rw (le-leb _ _ fits) (append-assoc (take at buffer) bytes (drop (at + length bytes) buffer)), rw (le-leb _ _ fits))
+
+-- bytes copied to the front of the part of a buffer that begins at a place
+pub copied : (buffer : List ℕ) (at : ℕ) (bytes part : List ℕ) → at + length bytes ≤ length buffer →
+    part ≡ take (length bytes) bytes ++ drop (length bytes) (midOf at (length buffer - at) buffer) →
+    (putMid at (length buffer - at) buffer part ≡ written buffer at bytes) × (at + length bytes ≡ placeAfter buffer at bytes)
+copied buffer at bytes part fits e =
+    let (stand, place) = written-fitting buffer at bytes fits in
+    let rest : length (drop at buffer) ≤ length buffer - at = simp length-drop (omega arith) in
+    let behind : drop (length bytes) (drop at buffer) ≡ drop (at + length bytes) buffer = drop-drop (length bytes) at buffer in
+    (rw (stand, e, take-all (length buffer - at) (drop at buffer) rest, take-all (length bytes) bytes (omega arith), drop-of-length-le (drop at buffer) {i = length buffer - at} rest, append-nil, behind), sym place)

@@ -2,17 +2,17 @@
 -- judged fine keeps them good; at the end one value is left, whose items they are.
 use mathlib.Core.Path.{_≡_, refl, sym, ap, _∙_}
 use mathlib.Core.List.{List, [], _∷_, _++_, append-assoc}
-use Prim.Native.Nat.{ℕ}
+use Prim.Native.Nat.{ℕ, _≤_}
 use native.Mathlib.Omega.{arith}
 use lib.ListN.{length}
 use Rattle.reading.specs.Buffers.{AllBytes}
 use Rattle.reading.specs.InTurn.{Verdict, Walked, walked}
 use Rattle.reading.specs.declared.refusal.Refusal.{Refusal}
 use Rattle.reading.proofs.InTurn.{walked-back}
-use Rattle.rules.specs.Accepted.{IsRule}
+use Rattle.rules.specs.Accepted.{IsRule, mostRuleBytes}
 use Rattle.rules.specs.Formula.{Formula, True, False, Flag, Not, And, Or, Until, Release, Eventually, Globally, horizon}
 use Rattle.rules.specs.Good.{Good, postfix, postfixes}
-use Rattle.rules.specs.Items.{apply, bytesOf}
+use Rattle.rules.specs.Items.{apply, bytesOf, ruleBytes}
 use Rattle.rules.specs.Loading.{Items, Reading, accepted, refused, loadedOf, oneValue, atEnd, verdictOf, ruleKind, judgeOf, countsOf, stackFrom, stackOf, readRule}
 use Rattle.rules.specs.declared.item.Item.{Item}
 use Rattle.rules.specs.declared.judge.Judged.{Judged}
@@ -59,20 +59,28 @@ at-end n (Walked.items js) is f e = go (stackOf js) refl e
 at-end n (Walked.refused r) is f e = differ e
 
 -- an item that is judged fine keeps the items good
-good-on : (is : Items) (at : ℕ) (i : Item) → Good is → ruleKind .judge is at i ≡ Verdict.fine → Good (is ++ i ∷ [])
+pub good-on : (is : Items) (at : ℕ) (i : Item) → Good is → ruleKind .judge is at i ≡ Verdict.fine → Good (is ++ i ∷ [])
 good-on is at i g e = go (judgeOf (countsOf is) at i) refl e
   where
     go : (d : Judged) → judgeOf (countsOf is) at i ≡ d → verdictOf d ≡ Verdict.fine → Good (is ++ i ∷ [])
     go (Judged.Next c) j e = good-more is i c g (fine (countsOf is) at i c j)
     go (Judged.Refused r) j e = absurd (let z : _≡_ {A = ℕ} 0 1 = cc in omega arith)
 
+-- good items are short
+pub good-short : (is : Items) → Good is → length (ruleBytes is) ≤ mostRuleBytes
+unfolding countsOf
+good-short is g = omega (arith, rule-length is (g .ranges), g .within .items, g .within .timed)
+
+-- the items that are read are good, and their bytes are all the bytes
+pub items-read : (bytes : List ℕ) (is : Items) → AllBytes bytes → walked ruleKind bytes ≡ Walked.items is → Good is × (bytes ≡ ruleBytes is) × (1 ≤ length is)
+items-read = walked-back ruleKind bytesOf Good good-none good-on (λ code i j k known. item-bytes code known i j k)
+
 -- The rule that is accepted
 pub accepted-rule : (bytes : List ℕ) (is : Items) (f : Formula) → AllBytes bytes → readRule bytes ≡ accepted is f → IsRule bytes is f
 unfolding readRule countsOf postfixes
 accepted-rule bytes is f small e =
     let (w, value) = at-end (length bytes) (walked ruleKind bytes) is f e in
-    let (g, all, some) =
-    walked-back ruleKind bytesOf Good good-none good-on (λ code i j k known. item-bytes code known i j k) bytes is small w in
+    let (g, all, some) = items-read bytes is small w in
     let near = rw value at (g .near) in
     record {
       own-bytes = all;
@@ -83,7 +91,7 @@ accepted-rule bytes is f small e =
       lower = g .within .lower;
       ranges = g .ranges;
       near = omega (arith, near .0, g .within .timed);
-      short = omega (arith, ap length all, rule-length is (g .ranges), g .within .items, g .within .timed);
+      short = rw all (good-short is g);
     }
 
 -- What an answer of loading tells of the rule that was read

@@ -40,7 +40,7 @@ numbers {i} x y small lacks makes =
       same = item-bytes (rowOf i .code) (small .0) x y 0 ∙ ap bytesOf makes;
     }
 
-numbered : (i : Item) → InRange i → Numbered ruleKind bytesOf i
+pub numbered : (i : Item) → InRange i → Numbered ruleKind bytesOf i
 unfolding look ruleCodes padded itemOf
 numbered Item.True r = numbers 0 0 (omega arith) refl refl
 numbered Item.False r = numbers 0 0 (omega arith) refl refl

@@ -12,3 +12,6 @@ pub mod Samples
 pub mod Unique
 pub mod Complete
 pub mod Prefixes
+pub mod Places
+pub mod SameBytes
+pub mod TooLarge

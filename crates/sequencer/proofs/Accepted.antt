@@ -1,7 +1,7 @@
 -- What holds of accepted code, and of the numbers that loading keeps of it: each instruction is fine after those before it, and the numbers give the instructions back. Each turn
 -- of reading adds an instruction that no test refuses.
 use mathlib.Core.Path.{_≡_, refl, ap, _∙_}
-use mathlib.Core.List.{List}
+use mathlib.Core.List.{List, [], _∷_, _++_}
 use Prim.Native.Nat.{ℕ, _*_, _≤_}
 use native.Mathlib.Omega.{arith}
 use lib.ListN.{length, length-append}
@@ -27,12 +27,16 @@ judged-fine : (j : Judged) → verdictOf j ≡ fine → (d : Counts) × (j ≡ J
 judged-fine (Judged.Next d) e = (d, refl)
 judged-fine (Judged.Refused r) e = absurd (let z : _≡_ {A = ℕ} 0 1 = cc in omega arith)
 
+-- an instruction that is judged fine keeps the code good
+pub good-on : (is : Code) (at : ℕ) (i : Instruction) → Good is → codeKind .judge is at i ≡ fine → Good (is ++ i ∷ [])
+good-on is at i g j =
+    let (d, next) = judged-fine (judgeOf (countsOf is) at i) j in
+    good-more is i g (passed is at i d (judged-row (countsOf is) at i ∙ next) .0)
+
 -- Accepted code: no test refuses an instruction of it, its bytes are those of its instructions, and it has one at least
 pub accepted-code : (bytes : List ℕ) (code : Code) → AllBytes bytes → readCode bytes ≡ items code → Good code × (bytes ≡ bytesOfAll bytesOf code) × (1 ≤ length code)
 accepted-code bytes code small e =
-    walked-back codeKind bytesOf Good good-none
-    (λ is at i g j. let (d, next) = judged-fine (judgeOf (countsOf is) at i) j in good-more is i g (passed is at i d (judged-row (countsOf is) at i ∙ next) .0))
-    (λ n i j k known. instruction-bytes n known i j k) bytes code small e
+    walked-back codeKind bytesOf Good good-none good-on (λ n i j k known. instruction-bytes n known i j k) bytes code small e
 
 -- What a program that is loaded holds, for those that go through it
 pub record Ready (bytes numbers : List ℕ) (n : ℕ) : Type 0 where

@@ -1,15 +1,20 @@
--- The instruction of a code byte and its numbers, code byte by code byte: what it is, its bytes and its numbers.
+-- The instruction of a code byte and its numbers, code byte by code byte: what it is, its bytes and its numbers; and how long code is.
 use mathlib.Core.Path.{_≡_, refl}
 use mathlib.Core.List.{[], _∷_, append-nil}
-use Prim.Native.Nat.{ℕ, _<_}
+use Prim.Native.Nat.{ℕ, _+_, _*_, _≤_, _<_}
+use native.Mathlib.Omega.{arith}
 use borrow.Author.Tests.{ne-eqb}
+use lib.ListN.{length, length-append}
+use Rattle.reading.specs.InTurn.{bytesOfAll}
 use Rattle.reading.specs.Items.{itemBytes, noCode, numbersBytes, look, instructionCodes}
 use Rattle.reading.specs.Items.{numbersOf as numbersIn}
 use Rattle.reading.specs.Padded.{padded}
 use Rattle.reading.specs.declared.item.Table.{Table}
 use Rattle.reading.proofs.Bytes.{Fitting}
 use Rattle.reading.proofs.Items.{by-row}
-use Rattle.sequencer.specs.Code.{One, Flag, Nand, Reach, Later, instructionOf, numbersOf, bytesOf}
+use Rattle.reading.proofs.Numbers.{number-length}
+use Rattle.sequencer.specs.Code.{Instruction, One, Flag, Nand, Reach, Later, Code, instructionOf, numbersOf, bytesOf}
+use Rattle.sequencer.specs.Loading.{reachOf, reachesIn}
 
 module _ (code i j k : ℕ) where
   pub is-one : code ≡ 0x01 → instructionOf code i j k ≡ One
@@ -45,3 +50,17 @@ unfolding look instructionCodes instructionOf numbersOf padded
 four-numbers =
     by-row (λ code. (i j k : ℕ) → Fitting Table.Code code i j k → numbersOf (instructionOf code i j k) ≡ code ∷ i ∷ j ∷ k ∷ []) instructionCodes
     ((λ i j k f. cc (f .lacks)), ((λ i j k f. cc (f .lacks)), ((λ i j k f. cc (f .lacks)), ((λ i j k f. refl), ((λ i j k f. cc (f .lacks)), tt)))))
+
+-- The bytes of code: five of an instruction at most, and two more of a REACH
+instruction-length : (i : Instruction) → length (bytesOf i) ≤ 5 + 2 * reachOf i
+unfolding bytesOf
+instruction-length One = omega arith
+instruction-length (Flag k) = omega (arith, number-length k)
+instruction-length (Nand i j) = simp length-append (omega (arith, number-length i, number-length j))
+instruction-length (Reach i j w) = simp length-append (omega (arith, number-length i, number-length j, number-length w))
+instruction-length (Later i d) = simp length-append (omega (arith, number-length i, number-length d))
+
+pub code-length : (code : Code) → length (bytesOfAll bytesOf code) ≤ 5 * length code + 2 * reachesIn code
+unfolding bytesOfAll reachesIn
+code-length [] = omega arith
+code-length (i ∷ is) = simp length-append (omega (arith, instruction-length i, code-length is))

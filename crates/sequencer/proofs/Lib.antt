@@ -16,3 +16,4 @@ pub mod Next
 pub mod Shifting
 pub mod Samples
 pub mod Unique
+pub mod Places

@@ -112,6 +112,10 @@ codeKind =
 abbrev pub readCode : List ℕ → Walked Instruction
 readCode bytes = walked codeKind bytes
 
+-- A bound on the place of a refusal: for each instruction a code byte and three numbers of two bytes
+abbrev pub mostCodePlace : ℕ
+mostCodePlace = 7 * limits .instructions
+
 -- What loading answers: how many instructions, or the refusal
 abbrev pub loadedOf : Walked Instruction → Loaded
 loadedOf (items code) = Loaded.Accepted (length code)

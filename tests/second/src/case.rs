@@ -280,7 +280,8 @@ pub fn line_of_case(case: &Case) -> String {
     }
 }
 
-fn words_of_refusal(refusal: Refusal) -> String {
+/// A refusal as text.
+pub fn words_of_refusal(refusal: Refusal) -> String {
     format!("refused {} {}", refusal.number, refusal.place)
 }
 

@@ -50,7 +50,7 @@ fn operators(l: &Formula, r: &Formula, windows: &[Window]) -> Vec<Formula> {
 }
 
 /// So many bytes of any value.
-fn any_bytes(random: &mut Random, count: usize) -> Vec<u8> {
+pub fn any_bytes(random: &mut Random, count: usize) -> Vec<u8> {
     (0..count).map(|_| random.byte()).collect()
 }
 
@@ -84,19 +84,24 @@ fn code_length(rule: &[u8]) -> Option<usize> {
     Some(code::write(&emit(&rule.formula)).len())
 }
 
-/// A rule with a buffer of any bytes: as long as the code, a byte shorter or
-/// longer, empty, much longer, or any shorter. Where the rule is refused, of
-/// any length.
-fn emit_case(random: &mut Random, rule: Vec<u8>) -> Case {
-    let length = code_length(&rule).unwrap_or_else(|| random.below(40));
-    let room = match random.below(10) {
+/// The length of a buffer for an answer of so many bytes: as long, a byte shorter
+/// or longer, empty, much longer, or any shorter.
+pub fn room_around(random: &mut Random, length: usize) -> usize {
+    match random.below(10) {
         0 => length.saturating_sub(1),
         1..=4 => length,
         5 => length + 1,
         6 => 0,
         7 | 8 => length + random.between(2, 300),
         _ => random.between(0, length),
-    };
+    }
+}
+
+/// A rule with a buffer of any bytes, of a length around that of the code. Where
+/// the rule is refused, of any length.
+fn emit_case(random: &mut Random, rule: Vec<u8>) -> Case {
+    let length = code_length(&rule).unwrap_or_else(|| random.below(40));
+    let room = room_around(random, length);
     Case::Emit {
         rule,
         buffer: any_bytes(random, room),

@@ -1,5 +1,5 @@
-//! An independent reference for rules, the emitter, the sequencer and the search,
-//! written straight from document 01.
+//! An independent reference for rules, the emitter, the sequencer, the search and
+//! the makers, written straight from document 01.
 //!
 //! Each module does one job in the plainest way. Nothing here is shared with
 //! the proved library: no code and no tables.
@@ -22,6 +22,9 @@
 //! - `search`: the search for the first clip that meets a rule.
 //! - `every_clip`: the same for tiny rules, by trying every clip.
 //! - `search_case`, `search_cases`: a case for the search, and the list of them.
+//! - `makers`: new rules from rules.
+//! - `maker_case`, `maker_cases`: a case for a maker, and the list of them.
+//! - `standing`: the text of the program that prints a rule's standing.
 
 pub mod case;
 pub mod cases;
@@ -30,6 +33,9 @@ pub mod emit;
 pub mod emitter_cases;
 pub mod every_clip;
 pub mod machine;
+pub mod maker_case;
+pub mod maker_cases;
+pub mod makers;
 pub mod meaning;
 pub mod number;
 pub mod random;
@@ -39,5 +45,6 @@ pub mod search;
 pub mod search_case;
 pub mod search_cases;
 pub mod sequencer_cases;
+pub mod standing;
 pub mod stream;
 pub mod write;

@@ -1,12 +1,12 @@
 //! The program: writes the lists of cases, answers a stream of them, packs and
 //! unpacks text.
 
-use second::{case, search_case};
-use second::{cases, emitter_cases, rule, search_cases, sequencer_cases, stream};
-use std::io::{self, BufRead, BufWriter, StdinLock, StdoutLock, Write};
+use second::{case, maker_case, search_case};
+use second::{cases, emitter_cases, maker_cases, search_cases, sequencer_cases};
+use second::{rule, standing, stream};
+use std::io::{self, BufRead, BufWriter, StdoutLock, Write};
 use std::process::ExitCode;
 
-type Input = StdinLock<'static>;
 type Output = BufWriter<StdoutLock<'static>>;
 
 const USE: &str = "use:
@@ -21,14 +21,18 @@ for the sequencer and the emitter:
   second pack-cases   read cases as lines of text, write the stream
   second unpack-cases read a stream of cases, write them as lines of text
 for the search, in the same way:
-  second search-cases SEED, answer-searches, pack-searches, unpack-searches";
+  second search-cases SEED, answer-searches, pack-searches, unpack-searches
+for the makers, in the same way:
+  second maker-cases SEED, answer-makers, pack-makers, unpack-makers
+for the program that prints a rule's standing:
+  second standing     read a rule's bytes, write the program's text";
 
 fn main() -> ExitCode {
     let arguments: Vec<String> = std::env::args().skip(1).collect();
     let words: Vec<&str> = arguments.iter().map(String::as_str).collect();
     let result = match words[..] {
         ["cases", seed] => write_cases(seed),
-        ["load"] => load_stream(),
+        ["load"] => write_lines(stream::read_bytes, |rule| load_line(rule)),
         ["pack"] => pack_lines(),
         ["load-cases", seed] => write_list(seed, sequencer_cases::load_cases, case::write_case),
         ["step-cases", seed] => write_list(seed, sequencer_cases::step_cases, case::write_case),
@@ -44,6 +48,11 @@ fn main() -> ExitCode {
         ["answer-searches"] => write_lines(search_case::read_case, search_case::answer),
         ["pack-searches"] => pack_cases(search_case::case_of_line, search_case::write_case),
         ["unpack-searches"] => write_lines(search_case::read_case, search_case::line_of_case),
+        ["maker-cases", seed] => write_list(seed, maker_cases::maker_cases, maker_case::write_case),
+        ["answer-makers"] => write_lines(maker_case::read_case, maker_case::answer),
+        ["pack-makers"] => pack_cases(maker_case::case_of_line, maker_case::write_case),
+        ["unpack-makers"] => write_lines(maker_case::read_case, maker_case::line_of_case),
+        ["standing"] => write_standing(),
         _ => Err(USE.to_string()),
     };
     match result {
@@ -76,15 +85,9 @@ fn write_cases(seed: &str) -> Result<(), String> {
     out.flush().map_err(said)
 }
 
-/// Loads each rule of a stream and writes its answer.
-fn load_stream() -> Result<(), String> {
-    let mut input = io::stdin().lock();
-    let mut out = BufWriter::new(io::stdout().lock());
-    while let Some(bytes) = stream::read_bytes(&mut input).map_err(said)? {
-        let answer = rule::load(&bytes);
-        writeln!(out, "{}", stream::answer_line(&answer)).map_err(said)?;
-    }
-    out.flush().map_err(said)
+/// What loading a rule answers, as a line without its end.
+fn load_line(rule: &[u8]) -> String {
+    stream::answer_line(&rule::load(rule))
 }
 
 /// Turns lines of hex bytes into a stream.
@@ -115,15 +118,10 @@ fn write_list<Case>(
 
 /// Writes a line for each case of a stream.
 fn write_lines<Case>(
-    read: fn(&mut Input) -> io::Result<Option<Case>>,
+    read: fn(&mut stream::Input) -> io::Result<Option<Case>>,
     line: fn(&Case) -> String,
 ) -> Result<(), String> {
-    let mut input = io::stdin().lock();
-    let mut out = BufWriter::new(io::stdout().lock());
-    while let Some(case) = read(&mut input).map_err(said)? {
-        writeln!(out, "{}", line(&case)).map_err(said)?;
-    }
-    out.flush().map_err(said)
+    stream::write_lines(read, line).map_err(said)
 }
 
 /// Turns lines of text into a stream of cases.
@@ -140,4 +138,11 @@ fn pack_cases<Case>(
         }
     }
     out.flush().map_err(said)
+}
+
+/// Reads a rule and writes its standing.
+fn write_standing() -> Result<(), String> {
+    let rule = stream::read_up_to(&mut io::stdin().lock(), standing::MOST_BYTES).map_err(said)?;
+    let text = standing::text(&rule);
+    io::stdout().write_all(text.as_bytes()).map_err(said)
 }

@@ -9,6 +9,7 @@
 //! in hex as in other cases, the two lengths in decimal.
 
 use crate::case::{bytes_of_words, words_of_buffer, words_of_bytes};
+use crate::rule::Refusal;
 use crate::search::{search, Answer};
 use crate::stream::{cut, read_bytes, read_up_to, write_bytes};
 use std::io::{self, Read, Write};
@@ -88,20 +89,31 @@ pub fn line_of_case(case: &SearchCase) -> String {
     )
 }
 
-/// The answer to a case, as a line without its end: `met LENGTH STATES`, `none
-/// STATES` or `refused NUMBER PLACE`; ` [WITNESS]` with every byte of the witness
-/// buffer after it, two hex digits each; and ` table NONZERO CHANGED`, how many
-/// bytes of the table are then not 0, and how many are not what they were.
+/// The answer to a case, as a line without its end.
 pub fn answer(case: &SearchCase) -> String {
     let mut table = vec![case.fill; case.table as usize];
     let mut witness = vec![case.fill; case.witness as usize];
-    let done = search(&case.rule, &mut table, &mut witness).map(|answer| match answer {
+    let found = search(&case.rule, &mut table, &mut witness);
+    answer_line(found, &table, &witness, case.fill)
+}
+
+/// What a search answers, as a line without its end: `met LENGTH STATES`, `none
+/// STATES` or `refused NUMBER PLACE`; ` [WITNESS]` with every byte of the witness
+/// buffer after it, two hex digits each; and ` table NONZERO CHANGED`, how many
+/// bytes of the table are then not 0, and how many are not what they were.
+pub fn answer_line(
+    found: Result<Answer, Refusal>,
+    table: &[u8],
+    witness: &[u8],
+    fill: u8,
+) -> String {
+    let done = found.map(|answer| match answer {
         Answer::Met { length, states } => format!("met {length} {states}"),
         Answer::None { states } => format!("none {states}"),
     });
-    let done = words_of_buffer(done, &witness);
+    let done = words_of_buffer(done, witness);
     let count = |other: u8| table.iter().filter(|&&byte| byte != other).count();
-    format!("{done} table {} {}", count(0), count(case.fill))
+    format!("{done} table {} {}", count(0), count(fill))
 }
 
 #[cfg(test)]

@@ -122,6 +122,14 @@ fn frames(rule: &[u8]) -> usize {
 
 /// Rules to search a clip for, each with two buffers.
 pub fn search_cases(seed: u64) -> Vec<SearchCase> {
+    let mut out = edge_cases(seed);
+    out.extend(random_cases(seed));
+    out
+}
+
+/// Samples, rules at the edges of what the buffers hold, rules about each flag,
+/// byte, counter and delay bit, and rules that are refused.
+pub fn edge_cases(seed: u64) -> Vec<SearchCase> {
     let mut out = Vec::new();
     sample_edges(&mut out);
     room_edges(&mut out);
@@ -133,9 +141,13 @@ pub fn search_cases(seed: u64) -> Vec<SearchCase> {
     every_counter(&mut out);
     every_delay_bit(&mut out);
     refusals(&mut generator(seed, 601), &mut out);
-    let mut random = generator(seed, 602);
-    out.extend((0..10_000).map(|_| random_case(&mut random)));
     out
+}
+
+/// Random rules. What a search compares for each is counted here, which takes long.
+pub fn random_cases(seed: u64) -> Vec<SearchCase> {
+    let mut random = generator(seed, 602);
+    (0..10_000).map(|_| random_case(&mut random)).collect()
 }
 
 /// The samples, with tables of whole records and of a byte more or less, up to

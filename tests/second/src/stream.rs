@@ -1,7 +1,10 @@
 //! Bytes in a binary stream, rules as text lines, and answers as lines.
 
 use crate::rule::{Refusal, Rule};
-use std::io::{self, Read, Write};
+use std::io::{self, BufWriter, Read, StdinLock, Write};
+
+/// Standard input.
+pub type Input = StdinLock<'static>;
 
 /// Writes bytes to a stream, a rule for one: their length as four bytes, lowest
 /// first, then they themselves.
@@ -39,6 +42,20 @@ pub fn read_up_to(input: &mut impl Read, count: usize) -> io::Result<Vec<u8>> {
 /// The error of a stream that ends too early.
 pub fn cut(words: &str) -> io::Error {
     io::Error::new(io::ErrorKind::UnexpectedEof, words)
+}
+
+/// Reads a stream from standard input to its end, and writes a line for each case
+/// of it to standard output.
+pub fn write_lines<Case>(
+    read: fn(&mut Input) -> io::Result<Option<Case>>,
+    line: fn(&Case) -> String,
+) -> io::Result<()> {
+    let mut input = io::stdin().lock();
+    let mut out = BufWriter::new(io::stdout().lock());
+    while let Some(case) = read(&mut input)? {
+        writeln!(out, "{}", line(&case))?;
+    }
+    out.flush()
 }
 
 /// The bytes of a text of hex bytes, two digits each, with spaces between.

@@ -1,0 +1,108 @@
+-- Making a rule: bytes joined in a workspace, one part behind the other, and what is answered once each of the three is judged.
+use mathlib.Core.Path.{_≡_, refl, sym, _∙_}
+use mathlib.Core.Bool.{cond}
+use mathlib.Core.List.{List, [], _++_, append-assoc}
+use Prim.Native.Nat.{ℕ, _+_, _≤_, _<_}
+use native.Mathlib.Nat.{zero-add}
+use native.Mathlib.Omega.{arith}
+use lib.ListN.{length, take, drop, length-append}
+use lib.Seq.{take-at, length-take-le}
+use Rattle.reading.specs.Buffers.{AllBytes, tooShort, over}
+use Rattle.reading.specs.Numbers.{written, placeAfter}
+use Rattle.reading.specs.declared.refusal.Refusal.{Refusal}
+use Rattle.reading.proofs.Buffers.{too-short, long-enough}
+use Rattle.reading.proofs.Written.{written-length, written-fitting}
+use Rattle.rules.specs.Accepted.{mostRuleBytes}
+use Rattle.rules.specs.Loading.{Reading, readRule, loadedOf}
+use Rattle.rules.specs.declared.load.Loaded.{Loaded}
+use Rattle.rules.proofs.Accepted.{accepted-rule, loaded-accepted, loaded-refused}
+use Rattle.makers.specs.Making.{orElse, newMade, oneMade, twoMade}
+use Rattle.makers.specs.declared.make.Which.{Which}
+use Rattle.makers.specs.declared.make.Made.{Made}
+
+-- one of the three is a rule
+passed : (which : Which) (read : Reading) (n h : ℕ) (then : Made) → Loaded.Accepted n h ≡ loadedOf read → orElse which read then ≡ then
+passed which read n h then e = let (is, f, own, _, _) = loaded-accepted read n h e in rw own
+
+-- or it is refused
+stopped : (which : Which) (read : Reading) (r : Refusal) (then : Made) → Loaded.Refused r ≡ loadedOf read → Made.Refused which r ≡ orElse which read then
+stopped which read r then e = rw (loaded-refused read r e)
+
+-- an accepted rule is short
+pub rule-short : (rule : List ℕ) (n h : ℕ) → AllBytes rule → Loaded.Accepted n h ≡ loadedOf (readRule rule) → length rule ≤ mostRuleBytes
+rule-short rule n h small e =
+    let (is, f, own, _, _) = loaded-accepted (readRule rule) n h e in
+    accepted-rule rule is f small own .short
+
+module _ (new out : List ℕ) where
+  -- the new bytes are no rule
+  pub new-refused : (r : Refusal) → Loaded.Refused r ≡ loadedOf (readRule new) → Made.Refused Which.New r ≡ newMade new out
+  new-refused r e = stopped Which.New (readRule new) r (cond (tooShort out new) (Made.Refused Which.New Refusal.ShortOutput) (Made.Length (length new))) e
+
+  module _ (n h : ℕ) (is : Loaded.Accepted n h ≡ loadedOf (readRule new)) where
+    -- or they are, and find no room
+    pub new-short : length out < length new → Made.Refused Which.New Refusal.ShortOutput ≡ newMade new out
+    new-short less = rw (too-short out new less, passed Which.New (readRule new) n h _ is)
+
+    -- or room, and are written
+    pub new-length : (out′ : List ℕ) (end : ℕ) → length new ≤ length out → (out′ ≡ written out 0 new) × (end ≡ placeAfter out 0 new) → (Made.Length end ≡ newMade new out) × (out′ ≡ over new out)
+    new-length out′ end fits (wrote, place) =
+        let (bytes, behind) = rw zero-add at (written-fitting out 0 new (omega arith)) in
+        (rw (place, behind, long-enough out new (omega arith), passed Which.New (readRule new) n h _ is), wrote ∙ bytes)
+
+module _ (operator rule out : List ℕ) where
+  -- the rule of a maker of one is refused
+  pub one-refused : (r : Refusal) → Loaded.Refused r ≡ loadedOf (readRule rule) → Made.Refused Which.First r ≡ oneMade operator rule out
+  one-refused r e = stopped Which.First (readRule rule) r (newMade (rule ++ operator) out) e
+
+  -- or the answer is that on the new bytes
+  pub one-made : (n h : ℕ) (made : Made) → Loaded.Accepted n h ≡ loadedOf (readRule rule) → made ≡ newMade (rule ++ operator) out → made ≡ oneMade operator rule out
+  one-made n h made is own = rw (passed Which.First (readRule rule) n h _ is) own
+
+module _ (operator first second out : List ℕ) where
+  -- the first rule of a maker of two is refused
+  pub first-refused : (r : Refusal) → Loaded.Refused r ≡ loadedOf (readRule first) → Made.Refused Which.First r ≡ twoMade operator first second out
+  first-refused r e =
+      stopped Which.First (readRule first) r (orElse Which.Second (readRule second) (newMade (first ++ (second ++ operator)) out)) e
+
+  module _ (n h : ℕ) (is : Loaded.Accepted n h ≡ loadedOf (readRule first)) where
+    -- or the second
+    pub second-refused : (r : Refusal) → Loaded.Refused r ≡ loadedOf (readRule second) → Made.Refused Which.Second r ≡ twoMade operator first second out
+    second-refused r e =
+        rw (passed Which.First (readRule first) n h _ is) (stopped Which.Second (readRule second) r (newMade (first ++ (second ++ operator)) out) e)
+
+    -- or the answer is that on the new bytes
+    pub two-made : (m g : ℕ) (made : Made) → Loaded.Accepted m g ≡ loadedOf (readRule second) → made ≡ newMade (first ++ (second ++ operator)) out → made ≡ twoMade operator first second out
+    two-made m g made too own =
+        rw (passed Which.First (readRule first) n h _ is, passed Which.Second (readRule second) m g _ too) own
+
+-- bytes stand in a workspace of some size up to an end
+pub record Standing (size : ℕ) (bytes work : List ℕ) (end : ℕ) : Type 0 where
+  pub own-bytes : take end work ≡ bytes
+  pub own-end : end ≡ length bytes
+  pub own-size : length work ≡ size
+  pub inside : length bytes ≤ size
+
+-- bytes behind those that stand there
+pub standing-more : (size : ℕ) (bytes more work : List ℕ) (end : ℕ) (work′ : List ℕ) (end′ : ℕ) → Standing size bytes work end → length bytes + length more ≤ size → (work′ ≡ written work end more) × (end′ ≡ placeAfter work end more) → Standing size (bytes ++ more) work′ end′
+standing-more size bytes more work end work′ end′ s room (wrote, place) =
+    let fits : end + length more ≤ length work = omega (arith, room, s .own-end, s .own-size) in
+    let (stand, behind) = written-fitting work end more fits in
+    let long : length (bytes ++ more) ≡ end + length more = omega (arith, length-append bytes more, s .own-end) in
+    record {
+      own-bytes = rw (wrote, place, behind, stand, s .own-bytes, ← append-assoc) (take-at (bytes ++ more) (drop (end + length more) work) (end + length more) long);
+      own-end = place ∙ behind ∙ sym long;
+      own-size = rw wrote (written-length work end more ∙ s .own-size);
+      inside = omega (arith, long, s .own-end, room);
+    }
+
+-- the first bytes of a workspace
+pub standing-first : (size : ℕ) (bytes work work′ : List ℕ) (end : ℕ) → length work ≡ size → length bytes ≤ size → (work′ ≡ written work 0 bytes) × (end ≡ placeAfter work 0 bytes) → Standing size bytes work′ end
+standing-first size bytes work work′ end own room wrote =
+    standing-more size [] bytes work 0 work′ end (record { own-bytes = refl; own-end = refl; own-size = own; inside = omega arith }) (omega arith) wrote
+
+-- whatever stands there up to an end
+pub standing-there : (work : List ℕ) (end : ℕ) → end ≤ length work → Standing (length work) (take end work) work end
+standing-there work end h =
+    let long : length (take end work) ≡ end = length-take-le end work h in
+    record { own-bytes = refl; own-end = sym long; own-size = refl; inside = omega (arith, long) }

@@ -1,0 +1,143 @@
+-- What made rules mean. The new bytes are those of the items of a formula, as the rules' bytes are and the operator's; no other items have these bytes and no other formula
+-- these items, so where the new bytes are a rule, it is this formula.
+use mathlib.Core.Path.{_≡_, refl, sym, ap, _∙_}
+use mathlib.Core.Bool.{Bool, true, false, false≢true, cond}
+use mathlib.Core.List.{List, [], _∷_, _++_, append-nil}
+use mathlib.Core.Logic.{_⊎_}
+use Prim.Native.Nat.{ℕ, zero, suc, _+_, _<_, max}
+use native.Mathlib.Omega.{arith}
+use lib.ListN.{length, drop}
+use Rattle.reading.specs.Buffers.{AllBytes, tooShort}
+use Rattle.reading.specs.Each.{Each}
+use Rattle.reading.specs.Frames.{Clip}
+use Rattle.reading.specs.InTurn.{bytesOfAll}
+use Rattle.reading.specs.Numbers.{numberBytes}
+use Rattle.reading.specs.declared.refusal.Refusal.{Refusal}
+use Rattle.reading.proofs.Buffers.{bytes-joined}
+use Rattle.reading.proofs.Choices.{else-taken}
+use Rattle.reading.proofs.Each.{each-joined}
+use Rattle.reading.proofs.InTurn.{bytes-append}
+use Rattle.rules.specs.Formula.{Formula, Not, And, Or, Globally, horizon}
+use Rattle.rules.specs.Good.{InRange, postfix}
+use Rattle.rules.specs.Items.{bytesOf, ruleBytes}
+use Rattle.rules.specs.Loading.{Items, Reading, accepted, refused, readRule}
+use Rattle.rules.specs.Meaning.{Holds, holds}
+use Rattle.rules.specs.declared.item.Item.{Item}
+use Rattle.rules.proofs.Accepted.{accepted-rule, one-formula}
+use Rattle.rules.proofs.Agreement.{agreement}
+use Rattle.rules.proofs.SameBytes.{same-items}
+use Rattle.makers.specs.Making.{negation, conjunction, disjunction, nextFrame, orElse, newMade, oneMade, twoMade}
+use Rattle.makers.specs.Meaning.{Means}
+use Rattle.makers.specs.declared.make.Made.{Made}
+use Rattle.makers.specs.declared.make.Which.{Which}
+
+-- Bytes that are those of items in range
+pub record Spells (bytes : List ℕ) (is : Items) : Type 0 where
+  pub small : AllBytes bytes
+  pub own : bytes ≡ ruleBytes is
+  pub ranges : Each InRange is
+
+-- those of two lists of items, one behind the other
+joined : {a b : List ℕ} {is js : Items} → Spells a is → Spells b js → Spells (a ++ b) (is ++ js)
+joined {a} {b} {is} {js} s t =
+    record {
+      small = bytes-joined a b (s .small) (t .small);
+      own = rw (s .own, t .own, bytes-append);
+      ranges = each-joined InRange is js (s .ranges) (t .ranges);
+    }
+
+-- those of an operator
+operator-spells : (i : Item) → AllBytes (bytesOf i) → InRange i → Spells (bytesOf i) (i ∷ [])
+unfolding bytesOfAll
+operator-spells i small range = record { small = small; own = rw append-nil; ranges = (range, tt) }
+
+-- those of a rule
+rule-spells : (rule : List ℕ) (is : Items) (f : Formula) → AllBytes rule → readRule rule ≡ accepted is f → Spells rule (postfix f)
+rule-spells rule is f small e =
+    let r = accepted-rule rule is f small e in
+    record { small = small; own = r .own-bytes ∙ ap ruleBytes (r .own-items); ranges = rw (r .own-items) at (r .ranges) }
+
+-- what the makers of one rule spell, and those of two
+module _ (rule : List ℕ) (is : Items) (f : Formula) (small : AllBytes rule) (read : readRule rule ≡ accepted is f) where
+  pub negate-spells : Spells (rule ++ negation) (postfix (Not f))
+  unfolding bytesOf postfix
+  negate-spells = joined (rule-spells rule is f small read) (operator-spells Item.Not (elim [ zero ↦ omega arith | suc i ↦ omega arith ]) (omega arith))
+
+  pub next-spells : Spells (rule ++ nextFrame) (postfix (Globally 1 1 f))
+  unfolding bytesOf numberBytes postfix
+  next-spells =
+      joined (rule-spells rule is f small read)
+      (operator-spells (Item.Globally 1 1) (elim [ zero ↦ omega arith | suc zero ↦ omega arith | suc (suc zero) ↦ omega arith | suc (suc (suc i)) ↦ omega arith ]) (omega arith))
+
+module _ (first second : List ℕ) (is js : Items) (f g : Formula) (small : AllBytes first) (bytes : AllBytes second)
+    (read : readRule first ≡ accepted is f) (also : readRule second ≡ accepted js g) where
+  two-spell : (i : Item) → AllBytes (bytesOf i) → InRange i → Spells (first ++ (second ++ bytesOf i)) (postfix f ++ (postfix g ++ i ∷ []))
+  two-spell i b r = joined (rule-spells first is f small read) (joined (rule-spells second js g bytes also) (operator-spells i b r))
+
+  pub both-spell : Spells (first ++ (second ++ conjunction)) (postfix (And f g))
+  unfolding bytesOf postfix
+  both-spell = two-spell Item.And (elim [ zero ↦ omega arith | suc i ↦ omega arith ]) (omega arith)
+
+  pub either-spell : Spells (first ++ (second ++ disjunction)) (postfix (Or f g))
+  unfolding bytesOf postfix
+  either-spell = two-spell Item.Or (elim [ zero ↦ omega arith | suc i ↦ omega arith ]) (omega arith)
+
+-- a maker that answers a length has read the new bytes as a rule
+new-read : (new out : List ℕ) (n : ℕ) → newMade new out ≡ Made.Length n → (n ≡ length new) × (is : Items) × (f : Formula) × (readRule new ≡ accepted is f)
+new-read new out n e = go (readRule new) refl e
+  where
+    go : (read : Reading) → readRule new ≡ read
+        → orElse Which.New read (cond (tooShort out new) (Made.Refused Which.New Refusal.ShortOutput) (Made.Length (length new))) ≡ Made.Length n
+        → (n ≡ length new) × (is : Items) × (f : Formula) × (readRule new ≡ accepted is f)
+    go (accepted is f) q e =
+        let (fits, same) = else-taken (tooShort out new) (λ d. let z : _≡_ {A = ℕ} 0 1 = cc in omega arith) e in
+        (cc, is, f, q)
+    go (refused r) q e = absurd (let z : _≡_ {A = ℕ} 0 1 = cc in omega arith)
+
+-- and that rule is the formula whose items they spell
+new-means : (h : Formula) (new out : List ℕ) (n : ℕ) → Spells new (postfix h) → newMade new out ≡ Made.Length n → (n ≡ length new) × Means new (Holds h) (horizon h)
+new-means h new out n s e =
+    let (own, is, f, read) = new-read new out n e in
+    let r = accepted-rule new is f (s .small) read in
+    let items : is ≡ postfix h = same-items is (postfix h) (r .ranges) (s .ranges) (sym (r .own-bytes) ∙ s .own) in
+    let formula : f ≡ h = one-formula f h (sym (r .own-items) ∙ items) in
+    (own, record { items = is; formula = h; read = rw formula at read; holds = λ c x. x; held = λ c x. x; horizon = refl })
+
+-- The four makers
+
+module _ (rule out : List ℕ) (is : Items) (f : Formula) (n : ℕ) (small : AllBytes rule) (read : readRule rule ≡ accepted is f) where
+  pub negate-means : oneMade negation rule out ≡ Made.Length n → (n ≡ length (rule ++ negation)) × Means (rule ++ negation) (λ c. Holds f c → ⊥) (horizon f)
+  unfolding Holds horizon
+  negate-means e = new-means (Not f) (rule ++ negation) out n (negate-spells rule is f small read) (rw read at e)
+
+  pub next-means : oneMade nextFrame rule out ≡ Made.Length n → (n ≡ length (rule ++ nextFrame)) × Means (rule ++ nextFrame) (Holds (Globally 1 1 f)) (1 + horizon f)
+  unfolding horizon
+  next-means e = new-means (Globally 1 1 f) (rule ++ nextFrame) out n (next-spells rule is f small read) (rw read at e)
+
+module _ (first second out : List ℕ) (is js : Items) (f g : Formula) (n : ℕ) (small : AllBytes first) (bytes : AllBytes second)
+    (read : readRule first ≡ accepted is f) (also : readRule second ≡ accepted js g) where
+  pub both-means : twoMade conjunction first second out ≡ Made.Length n
+      → (n ≡ length (first ++ (second ++ conjunction))) × Means (first ++ (second ++ conjunction)) (λ c. Holds f c × Holds g c) (max (horizon f) (horizon g))
+  unfolding Holds horizon
+  both-means e = new-means (And f g) (first ++ (second ++ conjunction)) out n (both-spell first second is js f g small bytes read also) (rw (read, also) at e)
+
+  pub either-means : twoMade disjunction first second out ≡ Made.Length n
+      → (n ≡ length (first ++ (second ++ disjunction))) × Means (first ++ (second ++ disjunction)) (λ c. Holds f c ⊎ Holds g c) (max (horizon f) (horizon g))
+  unfolding Holds horizon
+  either-means e = new-means (Or f g) (first ++ (second ++ disjunction)) out n (either-spell first second is js f g small bytes read also) (rw (read, also) at e)
+
+-- what does not fail to hold holds, as a test decides it
+stable : (f : Formula) (c : Clip) → ((Holds f c → ⊥) → ⊥) → Holds f c
+stable f c twice = go (holds f c) refl
+  where
+    go : (b : Bool) → holds f c ≡ b → Holds f c
+    go true e = agreement f c .0 e
+    go false e = absurd (twice (λ h. false≢true (sym e ∙ agreement f c .1 h)))
+
+-- `next` says: where there is a next frame, the rule holds from there on
+pub next-says : (f : Formula) (c : Clip) → (Holds (Globally 1 1 f) c → 1 < length c → Holds f (drop 1 c)) × ((1 < length c → Holds f (drop 1 c)) → Holds (Globally 1 1 f) c)
+unfolding Holds
+next-says f c = (
+  (λ k h. stable f (drop 1 c) (λ fails. k (record { longer = h; place = 1; from = omega arith; upto = omega arith; inside = h; right = fails; left = λ j a b x. x }))),
+  (λ k r. let one : r .place ≡ 1 = omega arith in (rw one at (r .right)) (k (r .longer))),
+)

@@ -1,0 +1,64 @@
+-- `one` meets its contract: an accepted rule fits into the workspace and an operator behind it, so the new bytes are the two joined.
+use mathlib.Core.Path.{refl, sym, _∙_}
+use Prim.Native.Nat.{_≤_}
+use native.Mathlib.Omega.{arith}
+use lib.ListN.{length}
+use Rattle.rules.specs.Accepted.{mostRuleBytes}
+use Rattle.makers.specs.Making.{mostNew}
+use Rattle.makers.proofs.Making.{rule-short, one-refused, one-made, Standing, standing-first}
+use borrow.Author.Needs.{needs}
+use Rattle.makers.proofs.make.one.Statement.{statement}
+use Rattle.makers.proofs.make.one.Tie as tie
+
+load-requires : tie.Need-load-requires
+load-requires c κs = search needs
+
+enum-told : tie.Need-enum-told
+enum-told c = search needs
+
+slice-aggregate-write-bytes : tie.Need-slice-aggregate-write-bytes
+slice-aggregate-write-bytes c = search needs
+
+write-bytes-requires : tie.Need-write-bytes-requires
+write-bytes-requires c κs = search needs
+
+slice-aggregate-finish : tie.Need-slice-aggregate-finish
+slice-aggregate-finish c = search needs
+
+-- the rule is short
+short : (c : tie.After-enum-told) → length (c .before .before .before .before .before .before .args .rule .now) ≤ mostRuleBytes
+short c = rule-short _ _ _ (λ i. omega (arith, c .before .before .before .before .before .shared-slice-known .given i)) (sym (c .enum-told .given .1) ∙ c .before .before .load .ensures)
+
+-- it stands in the workspace
+put : (c : tie.After-write-bytes) → Standing mostNew (c .before .before .before .before .before .before .before .before .args .rule .now) (c .write-bytes .last .0) (c .write-bytes .result)
+put c = standing-first _ _ _ _ _ refl (omega (arith, short (c .before .before))) (c .write-bytes .ensures)
+
+finish-requires : tie.Need-finish-requires
+finish-requires c κs = let p = put (c .before .before .before) in omega (arith, p .own-end, p .own-size, short (c .before .before .before .before .before), c .before .before .before .before .before .before .before .before .before .before .before .pre)
+
+enum-known-refusal : tie.Need-enum-known-refusal
+enum-known-refusal c = search needs
+
+same-length : tie.Need-same-length
+same-length c = search needs
+
+returns : tie.Need-returns
+returns c = let e = rw (put (c .before .before .before .before .before .before .before) .own-bytes) at (c .before .before .before .finish .ensures) in (one-made _ _ (c .before .before .before .before .before .before .before .before .before .before .before .before .before .before .before .args .out .now) _ _ _ (sym (c .before .before .before .before .before .before .before .before .before .enum-told .given .1) ∙ c .before .before .before .before .before .before .before .before .before .before .before .load .ensures) (e .0), e .1)
+
+returns-2 : tie.Need-returns-2
+returns-2 c = (one-refused _ _ (c .before .before .before .before .before .before .before .args .out .now) _ (sym (c .before .refusal .given .1) ∙ c .before .before .before .load .ensures), refl)
+
+pub one-spec : {M : Type 1} → statement M
+one-spec =
+    tie.close
+    (tie.spec
+    load-requires
+    enum-told
+    slice-aggregate-write-bytes
+    write-bytes-requires
+    slice-aggregate-finish
+    finish-requires
+    enum-known-refusal
+    same-length
+    returns
+    returns-2)

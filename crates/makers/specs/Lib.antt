@@ -1,0 +1,3 @@
+-- What the contracts of `makers` cite, and the makers' meaning.
+pub mod Making
+pub mod Meaning

@@ -1,0 +1,66 @@
+-- What the makers answer and write. Document 01: "Makers: negate appends 20; both and either append 21 or 22 after the first and then the second rule; next appends `33 01 01`", and
+-- "Makers: first rule, second rule, then the new bytes as a rule, then 16; the answer says which of the three was refused (for 16, the new bytes)".
+use mathlib.Core.Bool.{cond}
+use mathlib.Core.List.{List, [], _∷_, _++_}
+use Prim.Native.Nat.{ℕ, _+_, _*_}
+use lib.ListN.{length}
+use Rattle.reading.specs.Buffers.{tooShort, over}
+use Rattle.reading.specs.declared.refusal.Refusal.{Refusal}
+use Rattle.rules.specs.Accepted.{mostRuleBytes}
+use Rattle.rules.specs.Loading.{Reading, accepted, refused, readRule}
+use Rattle.makers.specs.declared.make.Which.{Which}
+use Rattle.makers.specs.declared.make.Made.{Made}
+
+-- What negate appends
+abbrev pub negation : List ℕ
+negation = 0x20 ∷ []
+
+-- What both appends
+abbrev pub conjunction : List ℕ
+conjunction = 0x21 ∷ []
+
+-- What either appends
+abbrev pub disjunction : List ℕ
+disjunction = 0x22 ∷ []
+
+-- What next appends
+abbrev pub nextFrame : List ℕ
+nextFrame = 0x33 ∷ 0x01 ∷ 0x01 ∷ []
+
+-- The longest of them
+abbrev pub mostOperator : ℕ
+mostOperator = 3
+
+-- A bound on the new bytes: two rules and an operator
+abbrev pub mostNew : ℕ
+mostNew = 2 * mostRuleBytes + mostOperator
+
+-- The number of the one refused: 1 first, 2 second, 3 the new bytes
+abbrev pub whichOf : Which → ℕ
+whichOf Which.First = 1
+whichOf Which.Second = 2
+whichOf Which.New = 3
+
+-- One of the three as a rule: its refusal, or what comes after it
+abbrev pub orElse : Which → Reading → Made → Made
+orElse which (accepted is f) then = then
+orElse which (refused r) then = Made.Refused which r
+
+-- The new bytes: as a rule, then 16, then their length
+abbrev pub newMade : List ℕ → List ℕ → Made
+newMade new out =
+    orElse Which.New (readRule new) (cond (tooShort out new) (Made.Refused Which.New Refusal.ShortOutput) (Made.Length (length new)))
+
+-- What a maker of one rule answers
+abbrev pub oneMade : List ℕ → List ℕ → List ℕ → Made
+oneMade operator rule out = orElse Which.First (readRule rule) (newMade (rule ++ operator) out)
+
+-- What a maker of two rules answers
+abbrev pub twoMade : List ℕ → List ℕ → List ℕ → List ℕ → Made
+twoMade operator first second out =
+    orElse Which.First (readRule first) (orElse Which.Second (readRule second) (newMade (first ++ (second ++ operator)) out))
+
+-- What a maker leaves in the output buffer, by its answer
+abbrev pub madeAfter : Made → List ℕ → List ℕ → List ℕ
+madeAfter (Made.Length n) new out = over new out
+madeAfter (Made.Refused which r) new out = out

@@ -1,0 +1,17 @@
+-- What made rules mean, in document 002's words: a made rule is a rule again, and on every clip it holds exactly where these say.
+use mathlib.Core.Path.{_≡_}
+use mathlib.Core.List.{List}
+use Prim.Native.Nat.{ℕ}
+use Rattle.reading.specs.Frames.{Clip}
+use Rattle.rules.specs.Formula.{Formula, horizon}
+use Rattle.rules.specs.Loading.{Items, accepted, readRule}
+use Rattle.rules.specs.Meaning.{Holds}
+
+-- Bytes that are a rule, which holds exactly where it is said, with this horizon
+pub record Means (new : List ℕ) (Says : Clip → Type 0) (far : ℕ) : Type 0 where
+  pub items : Items
+  pub formula : Formula
+  pub read : readRule new ≡ accepted items formula
+  pub holds : (c : Clip) → Holds formula c → Says c
+  pub held : (c : Clip) → Says c → Holds formula c
+  pub horizon : horizon formula ≡ far

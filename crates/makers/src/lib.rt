@@ -1,0 +1,2 @@
+// The makers: new rules of accepted ones.
+pub mod make;

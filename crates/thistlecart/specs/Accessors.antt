@@ -1,0 +1,82 @@
+-- What the header's accessors read of a word, and that they read what the library answers. Each gives 0 where the word doesn't hold the thing.
+use mathlib.Core.Path.{_≡_}
+use mathlib.Core.Bool.{Bool, cond}
+use Prim.Native.Nat.{ℕ, _/_, _%_}
+use lib.Dec.{ltb, eqb}
+use Rattle.reading.specs.Refusals.{numberOf, placeOf}
+use Rattle.reading.specs.declared.refusal.Refusal.{Refusal}
+use Rattle.rules.specs.declared.load.Loaded.{Loaded}
+use Rattle.sequencer.specs.declared.run.Ran.{Ran}
+use Rattle.emitter.specs.declared.emit.Emitted.{Emitted}
+use Rattle.finder.specs.declared.search.Found.{Found}
+use Rattle.makers.specs.Making.{whichOf}
+use Rattle.makers.specs.declared.make.Made.{Made}
+use Rattle.thistlecart.specs.Words.{bit8, bit16, bit24, bit32, bit40}
+
+-- thistlecart_refusal: the number, 0 where there is none
+abbrev pub refusalIn : ℕ → ℕ
+refusalIn word = word % bit8
+
+-- Whether a word is no refusal's
+abbrev pub answered : ℕ → Bool
+answered word = eqb (refusalIn word) 0
+
+-- thistlecart_place
+abbrev pub placeIn : ℕ → ℕ
+placeIn word = cond (answered word) 0 (word / bit8 % bit32)
+
+-- thistlecart_which: 1 first, 2 second, 3 the new bytes
+abbrev pub whichIn : ℕ → ℕ
+whichIn word = cond (answered word) 0 (word / bit40)
+
+-- thistlecart_items
+abbrev pub itemsIn : ℕ → ℕ
+itemsIn word = cond (answered word) (word / bit8 % bit16) 0
+
+-- thistlecart_horizon
+abbrev pub horizonIn : ℕ → ℕ
+horizonIn word = cond (answered word) (word / bit24) 0
+
+-- thistlecart_met
+abbrev pub metIn : ℕ → ℕ
+metIn word = cond (answered word) (word / bit8 % 2) 0
+
+-- thistlecart_length: the word of a search has its states above bit 31, and no other word with a length has a bit there
+abbrev pub lengthIn : ℕ → ℕ
+lengthIn word = cond (answered word) (cond (ltb word bit32) (word / bit8) (word / bit16 % bit16)) 0
+
+-- thistlecart_states
+abbrev pub statesIn : ℕ → ℕ
+statesIn word = cond (answered word) (word / bit32) 0
+
+-- A word tells a refusal
+abbrev pub TellsRefusal : Refusal → ℕ → Type 0
+TellsRefusal r word = (refusalIn word ≡ numberOf r) × (placeIn word ≡ placeOf r)
+
+-- A word tells what loading answers
+abbrev pub TellsLoaded : Loaded → ℕ → Type 0
+TellsLoaded (Loaded.Accepted items horizon) word = (refusalIn word ≡ 0) × (itemsIn word ≡ items) × (horizonIn word ≡ horizon)
+TellsLoaded (Loaded.Refused r) word = TellsRefusal r word
+
+-- A word tells what the search answers: met or not, the length, 0 if not, and the states
+abbrev pub TellsFound : Found → ℕ → Type 0
+TellsFound (Found.Met length states) word =
+    (refusalIn word ≡ 0) × (metIn word ≡ 1) × (lengthIn word ≡ length) × (statesIn word ≡ states)
+TellsFound (Found.None states) word =
+    (refusalIn word ≡ 0) × (metIn word ≡ 0) × (lengthIn word ≡ 0) × (statesIn word ≡ states)
+TellsFound (Found.Refused r) word = TellsRefusal r word
+
+-- A word tells what emitting answers
+abbrev pub TellsEmitted : Emitted → ℕ → Type 0
+TellsEmitted (Emitted.Length length) word = (refusalIn word ≡ 0) × (lengthIn word ≡ length)
+TellsEmitted (Emitted.Refused r) word = TellsRefusal r word
+
+-- A word tells what a run answers
+abbrev pub TellsRan : Ran → ℕ → Type 0
+TellsRan Ran.Done word = refusalIn word ≡ 0
+TellsRan (Ran.Refused r) word = TellsRefusal r word
+
+-- A word tells what a maker answers
+abbrev pub TellsMade : Made → ℕ → Type 0
+TellsMade (Made.Length length) word = (refusalIn word ≡ 0) × (lengthIn word ≡ length)
+TellsMade (Made.Refused which r) word = TellsRefusal r word × (whichIn word ≡ whichOf which)
