@@ -17,7 +17,7 @@ BUILT = target/staticlib/libthistlecart.a
 ARCHIVE = $(BUILT)
 DRIVER = target/driver/driver
 SOURCES := $(wildcard crates.txt) $(shell find crates -name '*.rt' -o -name '*.antt' 2>/dev/null)
-STRICT = -Wall -Wextra -Werror -pedantic -Iinclude
+WARNINGS = -Wall -Wextra -pedantic -Iinclude
 
 .PHONY: all example check-header install clean
 .DELETE_ON_ERROR:
@@ -30,7 +30,7 @@ $(BUILT): $(SOURCES)
 
 $(DRIVER): examples/driver.c include/thistlecart.h $(ARCHIVE)
 	mkdir -p $(@D)
-	$(CC) -std=c99 $(STRICT) $(CPPFLAGS) $(CFLAGS) $(LDFLAGS) examples/driver.c $(ARCHIVE) -o $@
+	$(CC) -std=c99 $(WARNINGS) $(CPPFLAGS) $(CFLAGS) $(LDFLAGS) examples/driver.c $(ARCHIVE) -o $@
 
 # A lamp that clips is followed by a frame without clipping 2 to 4 frames later; examples/driver.c explains the rule byte by byte. The second
 # clip has to end with status 1.
@@ -41,15 +41,15 @@ example: $(DRIVER)
 	$(DRIVER) examples/lamp.rule examples/stuck.clip target/driver/stuck.code; test $$? -eq 1
 
 check-header:
-	echo '#include "thistlecart.h"' | $(CC) -x c -std=c99 $(STRICT) -fsyntax-only -
-	echo '#include "thistlecart.h"' | $(CC) -x c -std=c11 $(STRICT) -fsyntax-only -
-	echo '#include "thistlecart.h"' | $(CXX) -x c++ $(STRICT) -fsyntax-only -
+	echo '#include "thistlecart.h"' | $(CC) -x c -std=c99 $(WARNINGS) -Werror -fsyntax-only -
+	echo '#include "thistlecart.h"' | $(CC) -x c -std=c11 $(WARNINGS) -Werror -fsyntax-only -
+	echo '#include "thistlecart.h"' | $(CXX) -x c++ $(WARNINGS) -Werror -fsyntax-only -
 
 install: $(ARCHIVE)
 	install -d '$(DESTDIR)$(PREFIX)/include' '$(DESTDIR)$(PREFIX)/lib/pkgconfig'
 	install -m 644 include/thistlecart.h '$(DESTDIR)$(PREFIX)/include/thistlecart.h'
 	install -m 644 $(ARCHIVE) '$(DESTDIR)$(PREFIX)/lib/libthistlecart.a'
-	sed -e 's|@PREFIX@|$(PREFIX)|' -e 's|@VERSION@|$(VERSION)|' thistlecart.pc.in >'$(DESTDIR)$(PREFIX)/lib/pkgconfig/thistlecart.pc'
+	sed -e 's|@PREFIX@|$(abspath $(PREFIX))|' -e 's|@VERSION@|$(VERSION)|' thistlecart.pc.in >'$(DESTDIR)$(PREFIX)/lib/pkgconfig/thistlecart.pc'
 	chmod 644 '$(DESTDIR)$(PREFIX)/lib/pkgconfig/thistlecart.pc'
 
 clean:

@@ -6,12 +6,14 @@ use mathlib.Core.List.{List}
 use Prim.Native.Nat.{ℕ, _+_, _≤_}
 use native.Mathlib.Nat.{min-le-right}
 use native.Mathlib.Omega.{arith}
+use borrow.Author.Tests.{le-ltb}
+use lib.ListN.{length}
 use Rattle.reading.specs.Buffers.{AllBytes}
 use Rattle.reading.specs.Limits.{limits}
 use Rattle.reading.specs.Refusals.{placeOf}
 use Rattle.rules.specs.Accepted.{mostHorizon, mostRuleBytes}
 use Rattle.rules.specs.Formula.{Formula, horizon}
-use Rattle.rules.specs.Loading.{Reading, accepted, refused, readRule}
+use Rattle.rules.specs.Loading.{Items, Reading, accepted, refused, readRule}
 use Rattle.rules.specs.Meaning.{Holds}
 use Rattle.rules.proofs.Accepted.{accepted-rule}
 use Rattle.rules.proofs.Places.{rule-place}
@@ -51,3 +53,7 @@ said-small rule table witness r table′ witness′ small says = go (readRule ru
     go : (read : Reading) → readRule rule ≡ read → SearchSays read table witness r table′ witness′ → Small r
     go (accepted is f) e s = accepts f (shortWitness f witness) (accepted-rule rule is f small e .near) s
     go (refused x) e s = rw (s .own-answer) (rule-place rule x small e)
+
+-- A witness buffer as long as the greatest horizon + 1 is long enough for every accepted rule
+pub witness-suffices : (rule witness : List ℕ) (is : Items) (f : Formula) → AllBytes rule → readRule rule ≡ accepted is f → mostHorizon + 1 ≤ length witness → shortWitness f witness ≡ false
+witness-suffices rule witness is f small read long = le-ltb (length witness) (horizon f + 1) (omega (arith, long, accepted-rule rule is f small read .near))

@@ -2,7 +2,7 @@
 use mathlib.Core.Path.{_≡_, refl, sym, _∙_}
 use mathlib.Core.Bool.{cond}
 use mathlib.Core.List.{List, [], _++_, append-assoc}
-use Prim.Native.Nat.{ℕ, _+_, _≤_, _<_}
+use Prim.Native.Nat.{ℕ, zero, suc, _+_, _≤_, _<_}
 use native.Mathlib.Nat.{zero-add}
 use native.Mathlib.Omega.{arith}
 use lib.ListN.{length, take, drop, length-append}
@@ -13,10 +13,11 @@ use Rattle.reading.specs.declared.refusal.Refusal.{Refusal}
 use Rattle.reading.proofs.Buffers.{too-short, long-enough}
 use Rattle.reading.proofs.Written.{written-length, written-fitting}
 use Rattle.rules.specs.Accepted.{mostRuleBytes}
-use Rattle.rules.specs.Loading.{Reading, readRule, loadedOf}
+use Rattle.rules.specs.Formula.{Formula}
+use Rattle.rules.specs.Loading.{Items, Reading, accepted, readRule, loadedOf}
 use Rattle.rules.specs.declared.load.Loaded.{Loaded}
 use Rattle.rules.proofs.Accepted.{accepted-rule, loaded-accepted, loaded-refused}
-use Rattle.makers.specs.Making.{orElse, newMade, oneMade, twoMade}
+use Rattle.makers.specs.Making.{negation, conjunction, disjunction, nextFrame, orElse, newMade, oneMade, twoMade}
 use Rattle.makers.specs.declared.make.Which.{Which}
 use Rattle.makers.specs.declared.make.Made.{Made}
 
@@ -106,3 +107,20 @@ pub standing-there : (work : List ℕ) (end : ℕ) → end ≤ length work → S
 standing-there work end h =
     let long : length (take end work) ≡ end = length-take-le end work h in
     record { own-bytes = refl; own-end = sym long; own-size = refl; inside = omega (arith, long) }
+
+-- A buffer as long as any accepted rule always holds the new bytes
+pub rule-suffices : (new out : List ℕ) (is : Items) (f : Formula) → AllBytes new → readRule new ≡ accepted is f → mostRuleBytes ≤ length out → newMade new out ≡ Made.Length (length new)
+rule-suffices new out is f small read room = rw (read, long-enough out new (omega (arith, accepted-rule new is f small read .short)))
+
+-- What the makers append are bytes
+pub negation-bytes : AllBytes negation
+negation-bytes = elim [ zero ↦ omega arith | suc i ↦ omega arith ]
+
+pub conjunction-bytes : AllBytes conjunction
+conjunction-bytes = elim [ zero ↦ omega arith | suc i ↦ omega arith ]
+
+pub disjunction-bytes : AllBytes disjunction
+disjunction-bytes = elim [ zero ↦ omega arith | suc i ↦ omega arith ]
+
+pub next-bytes : AllBytes nextFrame
+next-bytes = elim [ zero ↦ omega arith | suc zero ↦ omega arith | suc (suc zero) ↦ omega arith | suc (suc (suc i)) ↦ omega arith ]

@@ -4,7 +4,7 @@ use mathlib.Core.Path.{_≡_, refl, sym, ap, _∙_}
 use mathlib.Core.Bool.{Bool, true, false, false≢true, cond}
 use mathlib.Core.List.{List, [], _∷_, _++_, append-nil}
 use mathlib.Core.Logic.{_⊎_}
-use Prim.Native.Nat.{ℕ, zero, suc, _+_, _<_, max}
+use Prim.Native.Nat.{ℕ, _+_, _<_, max}
 use native.Mathlib.Omega.{arith}
 use lib.ListN.{length, drop}
 use Rattle.reading.specs.Buffers.{AllBytes, tooShort}
@@ -30,6 +30,7 @@ use Rattle.makers.specs.Making.{negation, conjunction, disjunction, next
 use Rattle.makers.specs.Meaning.{Means}
 use Rattle.makers.specs.declared.make.Made.{Made}
 use Rattle.makers.specs.declared.make.Which.{Which}
+use Rattle.makers.proofs.Making.{negation-bytes, conjunction-bytes, disjunction-bytes, next-bytes}
 
 -- Bytes that are those of items in range
 pub record Spells (bytes : List ℕ) (is : Items) : Type 0 where
@@ -61,13 +62,13 @@ rule-spells rule is f small e =
 module _ (rule : List ℕ) (is : Items) (f : Formula) (small : AllBytes rule) (read : readRule rule ≡ accepted is f) where
   pub negate-spells : Spells (rule ++ negation) (postfix (Not f))
   unfolding bytesOf postfix
-  negate-spells = joined (rule-spells rule is f small read) (operator-spells Item.Not (elim [ zero ↦ omega arith | suc i ↦ omega arith ]) (omega arith))
+  negate-spells = joined (rule-spells rule is f small read) (operator-spells Item.Not negation-bytes (omega arith))
 
   pub next-spells : Spells (rule ++ nextFrame) (postfix (Globally 1 1 f))
   unfolding bytesOf numberBytes postfix
   next-spells =
       joined (rule-spells rule is f small read)
-      (operator-spells (Item.Globally 1 1) (elim [ zero ↦ omega arith | suc zero ↦ omega arith | suc (suc zero) ↦ omega arith | suc (suc (suc i)) ↦ omega arith ]) (omega arith))
+      (operator-spells (Item.Globally 1 1) next-bytes (omega arith))
 
 module _ (first second : List ℕ) (is js : Items) (f g : Formula) (small : AllBytes first) (bytes : AllBytes second)
     (read : readRule first ≡ accepted is f) (also : readRule second ≡ accepted js g) where
@@ -76,11 +77,11 @@ module _ (first second : List ℕ) (is js : Items) (f g : Formula) (small : AllB
 
   pub both-spell : Spells (first ++ (second ++ conjunction)) (postfix (And f g))
   unfolding bytesOf postfix
-  both-spell = two-spell Item.And (elim [ zero ↦ omega arith | suc i ↦ omega arith ]) (omega arith)
+  both-spell = two-spell Item.And conjunction-bytes (omega arith)
 
   pub either-spell : Spells (first ++ (second ++ disjunction)) (postfix (Or f g))
   unfolding bytesOf postfix
-  either-spell = two-spell Item.Or (elim [ zero ↦ omega arith | suc i ↦ omega arith ]) (omega arith)
+  either-spell = two-spell Item.Or disjunction-bytes (omega arith)
 
 -- a maker that answers a length has read the new bytes as a rule
 new-read : (new out : List ℕ) (n : ℕ) → newMade new out ≡ Made.Length n → (n ≡ length new) × (is : Items) × (f : Formula) × (readRule new ≡ accepted is f)

@@ -1,5 +1,6 @@
 -- What the makers answer and write. Document 01: "Makers: negate appends 20; both and either append 21 or 22 after the first and then the second rule; next appends `33 01 01`", and
 -- "Makers: first rule, second rule, then the new bytes as a rule, then 16; the answer says which of the three was refused (for 16, the new bytes)".
+use mathlib.Core.Path.{_≡_}
 use mathlib.Core.Bool.{cond}
 use mathlib.Core.List.{List, [], _∷_, _++_}
 use Prim.Native.Nat.{ℕ, _+_, _*_}
@@ -35,7 +36,7 @@ mostOperator = 3
 abbrev pub mostNew : ℕ
 mostNew = 2 * mostRuleBytes + mostOperator
 
--- The number of the one refused: 1 first, 2 second, 3 the new bytes
+-- Which of the three, numbered in that order: 1 first, 2 second, 3 the new bytes
 abbrev pub whichOf : Which → ℕ
 whichOf Which.First = 1
 whichOf Which.Second = 2
@@ -64,3 +65,16 @@ twoMade operator first second out =
 abbrev pub madeAfter : Made → List ℕ → List ℕ → List ℕ
 madeAfter (Made.Length n) new out = over new out
 madeAfter (Made.Refused which r) new out = out
+
+-- What is said of new bytes: the answer, and the buffer by it
+abbrev pub MakesNew : List ℕ → List ℕ → Made → List ℕ → Type 0
+MakesNew new out answer out′ = (answer ≡ newMade new out) × (out′ ≡ madeAfter answer new out)
+
+-- What a maker of one rule says
+abbrev pub MakesOne : List ℕ → List ℕ → List ℕ → Made → List ℕ → Type 0
+MakesOne operator rule out answer out′ = (answer ≡ oneMade operator rule out) × (out′ ≡ madeAfter answer (rule ++ operator) out)
+
+-- What a maker of two rules says
+abbrev pub MakesTwo : List ℕ → List ℕ → List ℕ → List ℕ → Made → List ℕ → Type 0
+MakesTwo operator first second out answer out′ =
+    (answer ≡ twoMade operator first second out) × (out′ ≡ madeAfter answer (first ++ (second ++ operator)) out)

@@ -1,4 +1,5 @@
--- What made rules mean, in document 002's words: a made rule is a rule again, and on every clip it holds exactly where these say.
+-- What made rules mean. Document 01: "negate appends 20; both and either append 21 or 22 after the first and then the second rule; next appends `33 01 01`, as document 002 equates next with
+-- globally[1,1]." A made rule is a rule again, and on every clip it holds, by document 002's meaning, exactly where it is said.
 use mathlib.Core.Path.{_≡_}
 use mathlib.Core.List.{List}
 use Prim.Native.Nat.{ℕ}

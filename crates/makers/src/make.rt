@@ -4,7 +4,7 @@ ghost use mathlib.Core.Path.{_≡_};
 ghost use mathlib.Core.List.{_++_};
 ghost use Prim.Native.Nat.{_+_, _≤_};
 ghost use lib.ListN.{length, take};
-ghost use Rattle.makers.specs.Making.{negation, conjunction, disjunction, nextFrame, mostOperator, mostNew, whichOf, newMade, oneMade, twoMade, madeAfter};
+ghost use Rattle.makers.specs.Making.{negation, conjunction, disjunction, nextFrame, mostOperator, mostNew, whichOf, MakesNew, MakesOne, MakesTwo};
 use reading::buffer::write_bytes;
 use reading::refusal::Refusal;
 use rules::load::Loaded;
@@ -26,7 +26,7 @@ pub enum Made {
 // Room for two rules and an operator: an accepted rule has at most 176 bytes, an operator at most 3.
 const MOST_NEW: usize = 355;
 
-// Document 01's place of a refused rule among the three: 1 first, 2 second, 3 the new bytes.
+// Which of the three, numbered in document 01's order: 1 first, 2 second, 3 the new bytes.
 pub fn which_number(which: Which) -> u8
     ensures { λ r. ⌜ r ≡ whichOf which ⌝ }
 {
@@ -39,7 +39,7 @@ pub fn which_number(which: Which) -> u8
 
 // Judges the new bytes as a rule, then the room for them, and writes them.
 fn conclude(new: &[u8], out: &mut [u8]) -> Made
-    ensures { λ r. ⌜ (r ≡ newMade (now (new .entry)) (now (out .entry))) × (now (out .exit) ≡ madeAfter r (now (new .entry)) (now (out .entry))) ⌝ }
+    ensures { λ r. ⌜ MakesNew (now (new .entry)) (now (out .entry)) r (now (out .exit)) ⌝ }
 {
     match load(new) {
         Loaded::Accepted {
@@ -65,7 +65,7 @@ fn conclude(new: &[u8], out: &mut [u8]) -> Made
 // Puts an operator behind the rules that stand in a workspace up to an end, and concludes.
 fn finish(work: &mut [u8], end: usize, operator: &[u8], out: &mut [u8]) -> Made
     requires { ⌜ end + length (now operator) ≤ length (now work) ⌝ }
-    ensures { λ r. ⌜ (r ≡ newMade (take end (now (work .entry)) ++ now (operator .entry)) (now (out .entry))) × (now (out .exit) ≡ madeAfter r (take end (now (work .entry)) ++ now (operator .entry)) (now (out .entry))) ⌝ }
+    ensures { λ r. ⌜ MakesNew (take end (now (work .entry)) ++ now (operator .entry)) (now (out .entry)) r (now (out .exit)) ⌝ }
 {
     let length = write_bytes(&mut *work, end, operator);
     conclude(&work[..length], out)
@@ -74,7 +74,7 @@ fn finish(work: &mut [u8], end: usize, operator: &[u8], out: &mut [u8]) -> Made
 // Makes a rule of one.
 fn one(rule: &[u8], operator: &[u8], out: &mut [u8]) -> Made
     requires { ⌜ length (now operator) ≤ mostOperator ⌝ }
-    ensures { λ r. ⌜ (r ≡ oneMade (now (operator .entry)) (now (rule .entry)) (now (out .entry))) × (now (out .exit) ≡ madeAfter r (now (rule .entry) ++ now (operator .entry)) (now (out .entry))) ⌝ }
+    ensures { λ r. ⌜ MakesOne (now (operator .entry)) (now (rule .entry)) (now (out .entry)) r (now (out .exit)) ⌝ }
 {
     match load(rule) {
         Loaded::Accepted {
@@ -95,7 +95,7 @@ fn one(rule: &[u8], operator: &[u8], out: &mut [u8]) -> Made
 // Joins two accepted rules and an operator.
 fn join(first: &[u8], second: &[u8], operator: &[u8], out: &mut [u8]) -> Made
     requires { ⌜ length (now first) + (length (now second) + length (now operator)) ≤ mostNew ⌝ }
-    ensures { λ r. ⌜ (r ≡ newMade (now (first .entry) ++ (now (second .entry) ++ now (operator .entry))) (now (out .entry))) × (now (out .exit) ≡ madeAfter r (now (first .entry) ++ (now (second .entry) ++ now (operator .entry))) (now (out .entry))) ⌝ }
+    ensures { λ r. ⌜ MakesNew (now (first .entry) ++ (now (second .entry) ++ now (operator .entry))) (now (out .entry)) r (now (out .exit)) ⌝ }
 {
     let mut work = [0; MOST_NEW];
     let middle = write_bytes(&mut work, 0, first);
@@ -106,7 +106,7 @@ fn join(first: &[u8], second: &[u8], operator: &[u8], out: &mut [u8]) -> Made
 // Makes a rule of two.
 fn two(first: &[u8], second: &[u8], operator: &[u8], out: &mut [u8]) -> Made
     requires { ⌜ length (now operator) ≤ mostOperator ⌝ }
-    ensures { λ r. ⌜ (r ≡ twoMade (now (operator .entry)) (now (first .entry)) (now (second .entry)) (now (out .entry))) × (now (out .exit) ≡ madeAfter r (now (first .entry) ++ (now (second .entry) ++ now (operator .entry))) (now (out .entry))) ⌝ }
+    ensures { λ r. ⌜ MakesTwo (now (operator .entry)) (now (first .entry)) (now (second .entry)) (now (out .entry)) r (now (out .exit)) ⌝ }
 {
     match load(first) {
         Loaded::Accepted {
@@ -131,7 +131,7 @@ fn two(first: &[u8], second: &[u8], operator: &[u8], out: &mut [u8]) -> Made
 
 // Makes the rule that holds exactly where a rule does not.
 pub fn negate(rule: &[u8], out: &mut [u8]) -> Made
-    ensures { λ r. ⌜ (r ≡ oneMade negation (now (rule .entry)) (now (out .entry))) × (now (out .exit) ≡ madeAfter r (now (rule .entry) ++ negation) (now (out .entry))) ⌝ }
+    ensures { λ r. ⌜ MakesOne negation (now (rule .entry)) (now (out .entry)) r (now (out .exit)) ⌝ }
 {
     let operator = [0x20];
     one(rule, &operator, out)
@@ -139,7 +139,7 @@ pub fn negate(rule: &[u8], out: &mut [u8]) -> Made
 
 // Makes the rule that holds where a rule does from the next frame on, and where there is no next frame.
 pub fn next(rule: &[u8], out: &mut [u8]) -> Made
-    ensures { λ r. ⌜ (r ≡ oneMade nextFrame (now (rule .entry)) (now (out .entry))) × (now (out .exit) ≡ madeAfter r (now (rule .entry) ++ nextFrame) (now (out .entry))) ⌝ }
+    ensures { λ r. ⌜ MakesOne nextFrame (now (rule .entry)) (now (out .entry)) r (now (out .exit)) ⌝ }
 {
     let operator = [0x33, 0x01, 0x01];
     one(rule, &operator, out)
@@ -147,7 +147,7 @@ pub fn next(rule: &[u8], out: &mut [u8]) -> Made
 
 // Makes the rule that holds where both of two rules do.
 pub fn both(first: &[u8], second: &[u8], out: &mut [u8]) -> Made
-    ensures { λ r. ⌜ (r ≡ twoMade conjunction (now (first .entry)) (now (second .entry)) (now (out .entry))) × (now (out .exit) ≡ madeAfter r (now (first .entry) ++ (now (second .entry) ++ conjunction)) (now (out .entry))) ⌝ }
+    ensures { λ r. ⌜ MakesTwo conjunction (now (first .entry)) (now (second .entry)) (now (out .entry)) r (now (out .exit)) ⌝ }
 {
     let operator = [0x21];
     two(first, second, &operator, out)
@@ -155,7 +155,7 @@ pub fn both(first: &[u8], second: &[u8], out: &mut [u8]) -> Made
 
 // Makes the rule that holds where one of two rules does, or both.
 pub fn either(first: &[u8], second: &[u8], out: &mut [u8]) -> Made
-    ensures { λ r. ⌜ (r ≡ twoMade disjunction (now (first .entry)) (now (second .entry)) (now (out .entry))) × (now (out .exit) ≡ madeAfter r (now (first .entry) ++ (now (second .entry) ++ disjunction)) (now (out .entry))) ⌝ }
+    ensures { λ r. ⌜ MakesTwo disjunction (now (first .entry)) (now (second .entry)) (now (out .entry)) r (now (out .exit)) ⌝ }
 {
     let operator = [0x22];
     two(first, second, &operator, out)

@@ -62,5 +62,5 @@ module _ {S : Type 0} (state : Clip → S) (Meets : Clip → Type 0) where
   -- The fresh state is counted
   pub fresh-counted : (n : ℕ) → Counts state Meets n → 1 ≤ n
   fresh-counted n count =
-      let (i, inside, _) = count .all [] (record { bytes = λ i. omega arith; shorter = λ d s. s .some }) in
+      let (i, inside, _) = count .all [] (record { bytes = λ i. omega arith; shorter = λ d s. omega (arith, s .some) }) in
       omega (arith, inside)

@@ -84,39 +84,39 @@ module _ (table : Table) (bytes : List ℕ) (at : ℕ) where
     known h = rw (drop-cons bytes at 0 inside, ← is, lt-leb noCode count h)
 
 -- before the end stands an item, or a refusal that has the item's place
-abbrev Placed : ℕ → Read → Type 0
-Placed at (Item code i j k next) = Unit {0}
-Placed at End = ⊥
-Placed at (Refused r) = placeOf r ≡ at
+abbrev PlacedRead : ℕ → Read → Type 0
+PlacedRead at (Item code i j k next) = Unit {0}
+PlacedRead at End = ⊥
+PlacedRead at (Refused r) = placeOf r ≡ at
 
-numbers-placed : (m : ℕ) (bytes : List ℕ) (at code : ℕ) (read : List ℕ) (next : ℕ) → Placed at (numbersFrom m bytes at code read next)
+numbers-placed : (m : ℕ) (bytes : List ℕ) (at code : ℕ) (read : List ℕ) (next : ℕ) → PlacedRead at (numbersFrom m bytes at code read next)
 unfolding numbersFrom
 numbers-placed zero bytes at code read next = tt
 numbers-placed (suc m) bytes at code read next = go (numberAt bytes next) (λ n. numbers-placed m bytes at code (read ++ n ∷ []))
   where
-    go : (x : Number) → ((n behind : ℕ) → Placed at (numbersFrom m bytes at code (read ++ n ∷ []) behind))
-        → Placed at (withNumber at x (λ n behind. numbersFrom m bytes at code (read ++ n ∷ []) behind))
+    go : (x : Number) → ((n behind : ℕ) → PlacedRead at (numbersFrom m bytes at code (read ++ n ∷ []) behind))
+        → PlacedRead at (withNumber at x (λ n behind. numbersFrom m bytes at code (read ++ n ∷ []) behind))
     go (Value n behind) more = more n behind
     go Short more = refl
     go Long more = refl
 
 module _ (table : Table) (bytes : List ℕ) (at : ℕ) where
-  placed : at < length bytes → Placed at (itemAt table bytes at)
+  placed : at < length bytes → PlacedRead at (itemAt table bytes at)
   placed h =
       let n = numbersOf table (getD bytes at 0) in
       by-cases (decLt n noCode)
-      (λ t. subst (Placed at) (known table bytes at h n refl t) (numbers-placed n bytes at (getD bytes at 0) [] (at + 1)))
-      (λ t. subst (Placed at) (unknown table bytes at h n refl (omega arith)) refl)
+      (λ t. subst (PlacedRead at) (known table bytes at h n refl t) (numbers-placed n bytes at (getD bytes at 0) [] (at + 1)))
+      (λ t. subst (PlacedRead at) (unknown table bytes at h n refl (omega arith)) refl)
 
   -- so the end is read at the end alone
   pub end-back : itemAt table bytes at ≡ End → length bytes ≤ at
-  end-back e = by-cases (decLt at (length bytes)) (λ h. absurd (subst (Placed at) e (placed h))) (λ h. omega arith)
+  end-back e = by-cases (decLt at (length bytes)) (λ h. absurd (subst (PlacedRead at) e (placed h))) (λ h. omega arith)
 
   -- and a refusal by the reader has the item's place
   pub refused-place : (r : Refusal) → itemAt table bytes at ≡ Refused r → placeOf r ≡ at
   refused-place r e =
       by-cases (decLt at (length bytes))
-      (λ h. subst (Placed at) e (placed h))
+      (λ h. subst (PlacedRead at) e (placed h))
       (λ h. let u : End ≡ itemAt table bytes at = ended table bytes at (omega arith) in absurd (let z : _≡_ {A = ℕ} 0 1 = cc in omega arith))
 
 -- what holds of each code of a table holds of each code that the table knows

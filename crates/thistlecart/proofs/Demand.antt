@@ -22,8 +22,9 @@ use Rattle.finder.specs.declared.search.Found.{Found}
 use Rattle.makers.specs.Making.{oneMade, twoMade, madeAfter}
 use Rattle.makers.specs.declared.make.Made.{Made}
 use Rattle.thistlecart.specs.Accessors.{refusalIn, TellsFound, TellsEmitted, TellsRan, TellsMade}
-use Rattle.thistlecart.specs.Demand.{IsRefused, MakerDemand, DemandOne}
+use Rattle.thistlecart.specs.Demand.{IsRefused, DemandOne}
 use Rattle.thistlecart.specs.Fits.{MadeFits}
+use Rattle.thistlecart.specs.Words.{madeWord}
 use Rattle.thistlecart.proofs.Accessors.{loaded-told, found-told, emitted-told, ran-told, made-told}
 use Rattle.thistlecart.proofs.Fits.{loaded-fits, found-fits, emitted-fits, ran-fits, one-fits, two-fits}
 
@@ -41,7 +42,7 @@ maker-stays (Made.Length n) word new out told no-answer = absurd (no-answer (tol
 maker-stays (Made.Refused which r) word new out told no-answer = refl
 
 -- what a maker's answer demands
-maker-demand : (made : Made) (new out : List ℕ) → MadeFits made → MakerDemand made new out
+maker-demand : (made : Made) (new out : List ℕ) → MadeFits made → (word : ℕ) (out′ : List ℕ) → (word ≡ madeWord made) × (out′ ≡ madeAfter made new out) → TellsMade made word × (IsRefused word → out′ ≡ out)
 maker-demand made new out fits word out′ (own, left) =
     let told : TellsMade made word = rw own (made-told made fits) in
     (told, λ no-answer. left ∙ maker-stays made word new out told no-answer)

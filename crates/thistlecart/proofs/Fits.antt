@@ -3,7 +3,7 @@
 use mathlib.Core.Path.{_≡_, refl}
 use mathlib.Core.Bool.{cond}
 use mathlib.Core.List.{List, _++_}
-use Prim.Native.Nat.{ℕ, zero, suc, _+_, _*_, _≤_, _<_}
+use Prim.Native.Nat.{ℕ, _+_, _*_, _≤_, _<_}
 use native.Mathlib.Omega.{arith}
 use lib.ListN.{length}
 use Rattle.reading.specs.Buffers.{AllBytes, tooShort}
@@ -28,7 +28,7 @@ use Rattle.emitter.proofs.Accepted.{code-bytes}
 use Rattle.finder.specs.Finding.{SearchSays}
 use Rattle.finder.specs.declared.search.Found.{Found}
 use Rattle.finder.proofs.Small.{Small, said-small}
-use Rattle.makers.specs.Making.{negation, conjunction, disjunction, nextFrame, whichOf, orElse, newMade, oneMade, twoMade}
+use Rattle.makers.specs.Making.{whichOf, orElse, newMade, oneMade, twoMade}
 use Rattle.makers.specs.declared.make.Which.{Which}
 use Rattle.makers.specs.declared.make.Made.{Made}
 use Rattle.thistlecart.specs.Words.{bit40, refusalWord}
@@ -102,16 +102,3 @@ two-fits operator first second out own small too =
     else-fits Which.First first _ small
     (else-fits Which.Second second _ too
     (new-fits (first ++ (second ++ operator)) out (bytes-joined first (second ++ operator) small (bytes-joined second operator too own))))
-
--- what the makers append are bytes
-pub negation-bytes : AllBytes negation
-negation-bytes = elim [ zero ↦ omega arith | suc i ↦ omega arith ]
-
-pub conjunction-bytes : AllBytes conjunction
-conjunction-bytes = elim [ zero ↦ omega arith | suc i ↦ omega arith ]
-
-pub disjunction-bytes : AllBytes disjunction
-disjunction-bytes = elim [ zero ↦ omega arith | suc i ↦ omega arith ]
-
-pub nextFrame-bytes : AllBytes nextFrame
-nextFrame-bytes = elim [ zero ↦ omega arith | suc zero ↦ omega arith | suc (suc zero) ↦ omega arith | suc (suc (suc i)) ↦ omega arith ]

@@ -1,4 +1,5 @@
--- What the header's accessors read of a word, and that they read what the library answers. Each gives 0 where the word doesn't hold the thing.
+-- What the header's accessors read of a word: 0 for an answer's part of a refusal's word, and for a refusal's part of an answer's. Document 01: "Each returns number and place"; "An answer gives met or
+-- not, the length (0 if not) and the number of states"; "emitter and makers also give its length"; "the answer says which of the three was refused".
 use mathlib.Core.Path.{_≡_}
 use mathlib.Core.Bool.{Bool, cond}
 use Prim.Native.Nat.{ℕ, _/_, _%_}

@@ -3,7 +3,7 @@
 -- `emittedOf`, `ranOf`, `SearchSays`, `oneMade`, `twoMade`); a word tells what they give, by the header's accessors. That no input makes a function read outside a buffer, overflow or run
 -- on is what the check proves of every function.
 use mathlib.Core.Path.{_≡_}
-use mathlib.Core.List.{List, _++_}
+use mathlib.Core.List.{List}
 use mathlib.Core.Logic.{_⊎_}
 use Prim.Native.Nat.{ℕ}
 use lib.ListN.{length, replicate}
@@ -18,18 +18,12 @@ use Rattle.emitter.specs.Emitting.{emittedOf}
 use Rattle.finder.specs.Finding.{SearchSays}
 use Rattle.finder.specs.declared.search.Found.{Found}
 use Rattle.makers.specs.Making.{oneMade, twoMade}
-use Rattle.makers.specs.declared.make.Made.{Made}
 use Rattle.thistlecart.specs.Accessors.{refusalIn, TellsLoaded, TellsFound, TellsEmitted, TellsRan, TellsMade}
-use Rattle.thistlecart.specs.Entries.{Loads, Searches, Emits, Runs, Makes}
+use Rattle.thistlecart.specs.Entries.{Loads, Searches, Emits, Runs, MakesOfOne, MakesOfTwo}
 
 -- The word is a refusal's
 abbrev pub IsRefused : ℕ → Type 0
 IsRefused word = refusalIn word ≡ 0 → ⊥
-
--- A maker's word tells what it answers, and a refusal changes nothing
-abbrev pub MakerDemand : Made → List ℕ → List ℕ → Type 0
-MakerDemand made new out =
-    (word : ℕ) (out′ : List ℕ) → Makes made new out word out′ → TellsMade made word × (IsRefused word → out′ ≡ out)
 
 -- The demand, function by function
 pub record DemandOne : Type 0 where
@@ -41,6 +35,7 @@ pub record DemandOne : Type 0 where
       TellsEmitted (emittedOf (readRule rule) out) word × (IsRefused word → out′ ≡ out)
   pub run : (code : List ℕ) (clip : Clip) (out : List ℕ) → AllBytes code → (word : ℕ) (out′ : List ℕ) → Runs code clip out word out′ →
       TellsRan (ranOf (readCode code) clip out) word × (IsRefused word → out′ ≡ out)
-  pub one-rule : (operator rule out : List ℕ) → AllBytes operator → AllBytes rule → MakerDemand (oneMade operator rule out) (rule ++ operator) out
-  pub two-rules : (operator first second out : List ℕ) → AllBytes operator → AllBytes first → AllBytes second →
-      MakerDemand (twoMade operator first second out) (first ++ (second ++ operator)) out
+  pub one-rule : (operator rule out : List ℕ) → AllBytes operator → AllBytes rule → (word : ℕ) (out′ : List ℕ) → MakesOfOne operator rule out word out′ →
+      TellsMade (oneMade operator rule out) word × (IsRefused word → out′ ≡ out)
+  pub two-rules : (operator first second out : List ℕ) → AllBytes operator → AllBytes first → AllBytes second → (word : ℕ) (out′ : List ℕ) → MakesOfTwo operator first second out word out′ →
+      TellsMade (twoMade operator first second out) word × (IsRefused word → out′ ≡ out)

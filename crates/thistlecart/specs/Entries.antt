@@ -1,6 +1,7 @@
--- What each exported function says: the word of the library's own answer, and what is left in each buffer that is lent to be written.
+-- What each exported function says: the word of the library's own answer, and what is left in each buffer that is lent to be written. Document 01: "The compiler's driver is a C program and calls
+-- the search, the emitter and the run on byte buffers."
 use mathlib.Core.Path.{_≡_}
-use mathlib.Core.List.{List}
+use mathlib.Core.List.{List, _++_}
 use Prim.Native.Nat.{ℕ}
 use Rattle.reading.specs.Frames.{Clip}
 use Rattle.rules.specs.Loading.{readRule, loadedOf}
@@ -9,8 +10,7 @@ use Rattle.sequencer.specs.Running.{ranOf, bufferAfter}
 use Rattle.emitter.specs.Emitting.{emittedOf, outAfter}
 use Rattle.finder.specs.Finding.{SearchSays}
 use Rattle.finder.specs.declared.search.Found.{Found}
-use Rattle.makers.specs.Making.{madeAfter}
-use Rattle.makers.specs.declared.make.Made.{Made}
+use Rattle.makers.specs.Making.{oneMade, twoMade, madeAfter}
 use Rattle.thistlecart.specs.Words.{loadWord, foundWord, emittedWord, ranWord, madeWord}
 
 -- Loading a rule
@@ -33,6 +33,12 @@ abbrev pub Runs : List ℕ → Clip → List ℕ → ℕ → List ℕ → Type 0
 Runs code clip out word out′ =
     (word ≡ ranWord (ranOf (readCode code) clip out)) × (out′ ≡ bufferAfter (ranOf (readCode code) clip out) (codeOf (readCode code)) clip out)
 
--- A maker, by what it answers and the new bytes
-abbrev pub Makes : Made → List ℕ → List ℕ → ℕ → List ℕ → Type 0
-Makes made new out word out′ = (word ≡ madeWord made) × (out′ ≡ madeAfter made new out)
+-- A maker of one rule
+abbrev pub MakesOfOne : List ℕ → List ℕ → List ℕ → ℕ → List ℕ → Type 0
+MakesOfOne operator rule out word out′ =
+    (word ≡ madeWord (oneMade operator rule out)) × (out′ ≡ madeAfter (oneMade operator rule out) (rule ++ operator) out)
+
+-- A maker of two rules
+abbrev pub MakesOfTwo : List ℕ → List ℕ → List ℕ → List ℕ → ℕ → List ℕ → Type 0
+MakesOfTwo operator first second out word out′ =
+    (word ≡ madeWord (twoMade operator first second out)) × (out′ ≡ madeAfter (twoMade operator first second out) (first ++ (second ++ operator)) out)

@@ -1,4 +1,5 @@
--- Answers that fit into the word: each number is smaller than its part of the word has values. Every answer of the library does.
+-- Answers that fit into the word: each number is smaller than its part of the word has values. Every answer of the library does, by document 01's limits: "at most 64 items, 16 of them timed", "1 to 320
+-- instructions", records "at most 65,536". Contracts of inner functions cite it.
 use Prim.Native.Nat.{_≤_, _<_}
 use Rattle.reading.specs.Refusals.{placeOf}
 use Rattle.reading.specs.declared.refusal.Refusal.{Refusal}

@@ -1,6 +1,7 @@
--- The answer word of the exported functions. "Lowest byte: the refusal's number, 0 where there is none"; where it is refused, the place stands in bits 8 to 39 and, of a maker, which
+-- The answer word of the exported functions: document 01's number and place of a refusal, and the numbers that each answer gives, in one word of 64 bits. The lowest byte is the refusal's number, 0 where there
+-- is none; where it is refused, the place stands in bits 8 to 39 and, of a maker, which
 -- of the three in bits 40 and up. Else a loaded rule's items in bits 8 to 23 and its horizon in bits 24 and up; of a search, met in bit 8, the length in bits 16 to 31 and the states in
--- bits 32 and up; of an emitted or a made rule, the length in bits 8 and up.
+-- bits 32 and up; of emitted code or a made rule, the length in bits 8 and up.
 use Prim.Native.Nat.{ℕ, _+_, _*_}
 use Rattle.reading.specs.Refusals.{numberOf, placeOf}
 use Rattle.reading.specs.declared.refusal.Refusal.{Refusal}

@@ -1,11 +1,10 @@
 // The library as C programs meet it: exported functions over byte buffers that answer one 64-bit word, whose lowest byte is the refusal's
 // number, 0 where there is none.
 ghost use mathlib.Core.Path.{_≡_};
-ghost use mathlib.Core.List.{_++_};
-ghost use Rattle.makers.specs.Making.{negation, nextFrame, conjunction, disjunction, oneMade, twoMade};
+ghost use Rattle.makers.specs.Making.{negation, nextFrame, conjunction, disjunction};
 ghost use Rattle.thistlecart.specs.Words.{refusalWord, loadWord, foundWord, emittedWord, ranWord, madeWord};
 ghost use Rattle.thistlecart.specs.Fits.{PlaceFits, LoadedFits, FoundFits, EmittedFits, RanFits, MadeFits};
-ghost use Rattle.thistlecart.specs.Entries.{Loads, Searches, Emits, Runs, Makes};
+ghost use Rattle.thistlecart.specs.Entries.{Loads, Searches, Emits, Runs, MakesOfOne, MakesOfTwo};
 use emitter::emit::Emitted;
 use emitter::emit::emit;
 use finder::search::Found;
@@ -135,7 +134,7 @@ pub extern "C" fn thistlecart_run(code: &[u8], clip: &[u8], out: &mut [u8]) -> u
 // Makes the negation of a rule. The word has the new rule's length in bits 8 and up.
 #[no_mangle]
 pub extern "C" fn thistlecart_negate(rule: &[u8], out: &mut [u8]) -> u64
-    ensures { λ r. ⌜ Makes (oneMade negation (now (rule .entry)) (now (out .entry))) (now (rule .entry) ++ negation) (now (out .entry)) r (now (out .exit)) ⌝ }
+    ensures { λ r. ⌜ MakesOfOne negation (now (rule .entry)) (now (out .entry)) r (now (out .exit)) ⌝ }
 {
     made_word(negate(rule, out))
 }
@@ -143,7 +142,7 @@ pub extern "C" fn thistlecart_negate(rule: &[u8], out: &mut [u8]) -> u64
 // Makes the rule that a rule holds from the next frame on. The word has the new rule's length in bits 8 and up.
 #[no_mangle]
 pub extern "C" fn thistlecart_next(rule: &[u8], out: &mut [u8]) -> u64
-    ensures { λ r. ⌜ Makes (oneMade nextFrame (now (rule .entry)) (now (out .entry))) (now (rule .entry) ++ nextFrame) (now (out .entry)) r (now (out .exit)) ⌝ }
+    ensures { λ r. ⌜ MakesOfOne nextFrame (now (rule .entry)) (now (out .entry)) r (now (out .exit)) ⌝ }
 {
     made_word(next(rule, out))
 }
@@ -151,7 +150,7 @@ pub extern "C" fn thistlecart_next(rule: &[u8], out: &mut [u8]) -> u64
 // Makes the rule that both of two hold. The word has the new rule's length in bits 8 and up.
 #[no_mangle]
 pub extern "C" fn thistlecart_both(first: &[u8], second: &[u8], out: &mut [u8]) -> u64
-    ensures { λ r. ⌜ Makes (twoMade conjunction (now (first .entry)) (now (second .entry)) (now (out .entry))) (now (first .entry) ++ (now (second .entry) ++ conjunction)) (now (out .entry)) r (now (out .exit)) ⌝ }
+    ensures { λ r. ⌜ MakesOfTwo conjunction (now (first .entry)) (now (second .entry)) (now (out .entry)) r (now (out .exit)) ⌝ }
 {
     made_word(both(first, second, out))
 }
@@ -159,7 +158,7 @@ pub extern "C" fn thistlecart_both(first: &[u8], second: &[u8], out: &mut [u8]) 
 // Makes the rule that one of two holds. The word has the new rule's length in bits 8 and up.
 #[no_mangle]
 pub extern "C" fn thistlecart_either(first: &[u8], second: &[u8], out: &mut [u8]) -> u64
-    ensures { λ r. ⌜ Makes (twoMade disjunction (now (first .entry)) (now (second .entry)) (now (out .entry))) (now (first .entry) ++ (now (second .entry) ++ disjunction)) (now (out .entry)) r (now (out .exit)) ⌝ }
+    ensures { λ r. ⌜ MakesOfTwo disjunction (now (first .entry)) (now (second .entry)) (now (out .entry)) r (now (out .exit)) ⌝ }
 {
     made_word(either(first, second, out))
 }

@@ -46,7 +46,8 @@ extern "C" {
 }
 
 // In all calls the pointers and lengths are those of lent buffers, which live
-// through the call, and of which no other pointer is in use.
+// through the call, and of which no other pointer is in use. Only a rule that is
+// made from twice is lent as two buffers, and both are only read.
 
 pub fn load(rule: &mut Lent) -> u64 {
     unsafe { thistlecart_load(rule.pointer(), rule.length()) }
@@ -80,6 +81,28 @@ pub fn make(maker: Maker, first: &mut Lent, second: &mut Lent, out: &mut Lent) -
         Maker::Next => of_one(thistlecart_next, first, out),
         Maker::Both => of_two(thistlecart_both, first, second, out),
         Maker::Either => of_two(thistlecart_either, first, second, out),
+    }
+}
+
+/// A maker's function with one buffer as both rules. One of one rule is given it
+/// once.
+pub fn make_twice(maker: Maker, rule: &mut Lent, out: &mut Lent) -> u64 {
+    let function = match maker {
+        Maker::Negate => return of_one(thistlecart_negate, rule, out),
+        Maker::Next => return of_one(thistlecart_next, rule, out),
+        Maker::Both => thistlecart_both,
+        Maker::Either => thistlecart_either,
+    };
+    let (pointer, length) = (rule.pointer(), rule.length());
+    unsafe {
+        function(
+            pointer,
+            length,
+            pointer,
+            length,
+            out.pointer(),
+            out.length(),
+        )
     }
 }
 

@@ -29,6 +29,8 @@ pub enum Entry {
     Judge,
     /// The first rule, the second rule, the output buffer.
     Make(Maker),
+    /// The one buffer that is the first rule and the second, the output buffer.
+    MakeTwice(Maker),
 }
 
 /// What a buffer holds before the call.
@@ -54,8 +56,8 @@ pub struct Outcome {
     pub buffers: Vec<Lent>,
 }
 
-/// A buffer for emitted code, which never has so many bytes.
-const CODE: usize = 1_024;
+/// The bytes of a buffer that always suffices for emitted code.
+const CODE: usize = 1_152;
 
 /// The call that loads a rule.
 pub fn of_rule(rule: Vec<u8>) -> Call {
@@ -133,6 +135,17 @@ pub fn of_maker(case: MakerCase) -> Call {
     }
 }
 
+/// The call of a maker of two rules on the first rule of a case twice, in one
+/// buffer. The room is as much longer or shorter than the new bytes as in the case.
+/// A maker of one rule has no such call.
+pub fn of_twice(case: MakerCase) -> Option<Call> {
+    let room = (case.buffer.len() + case.first.len()).saturating_sub(case.second.len());
+    case.maker.takes_two().then(|| Call {
+        entry: Entry::MakeTwice(case.maker),
+        buffers: vec![Before::Bytes(case.first), Before::Pattern(room)],
+    })
+}
+
 impl Call {
     /// The buffers before the call. How they are laid out goes by the call's number.
     pub fn lent(&self, number: usize, lay: Layout) -> Vec<Lent> {
@@ -163,6 +176,7 @@ impl Call {
                 }
             }
             (Entry::Make(maker), [first, second, out]) => archive::make(maker, first, second, out),
+            (Entry::MakeTwice(maker), [rule, out]) => archive::make_twice(maker, rule, out),
             (entry, _) => panic!("{entry:?} with other buffers"),
         };
         Outcome { word, buffers }
@@ -192,6 +206,10 @@ impl Call {
             }
             (Entry::Make(maker), [first, second, out]) => {
                 let made = make(maker, first.bytes(), second.bytes(), out.bytes_mut());
+                word::of_made(made)
+            }
+            (Entry::MakeTwice(maker), [rule, out]) => {
+                let made = make(maker, rule.bytes(), rule.bytes(), out.bytes_mut());
                 word::of_made(made)
             }
             (entry, _) => panic!("{entry:?} with other buffers"),

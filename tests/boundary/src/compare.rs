@@ -2,7 +2,7 @@
 //! lists of a seed. The whole word is the same, and so is every byte of every
 //! buffer after the call, of those that are only read and of the guards too.
 
-use crate::call::{of_case, of_maker, of_rule, of_search, Before, Call, Outcome};
+use crate::call::{of_case, of_maker, of_rule, of_search, of_twice, Before, Call, Outcome};
 use crate::lent::{Layout, Lent};
 use second::case::{words_of_bytes, Case};
 use second::cases::{parts, Part};
@@ -15,22 +15,25 @@ use second::search_cases::{edge_cases, random_cases};
 use second::sequencer_cases::{load_cases, run_cases};
 use std::iter;
 
-/// The calls of a seed.
-type List = fn(u64) -> Vec<Call>;
+/// A list: its kind, how many calls it has at least, and its calls of a seed.
+type List = (&'static str, usize, fn(u64) -> Vec<Call>);
 
-/// The lists, each with its kind.
-const LISTS: [(&str, List); 7] = [
-    ("load", |seed| of_rules(parts(seed))),
-    ("emit", |seed| of_cases(emit_cases(seed))),
-    ("code", |seed| of_cases(load_cases(seed))),
-    ("run", |seed| of_cases(run_cases(seed))),
-    ("judge", |seed| of_cases(judge_cases(seed))),
-    ("make", |seed| of_makers(maker_cases(seed))),
-    ("search", |seed| of_searches(edge_cases(seed))),
+/// The lists. The least numbers are about a fifth below those of seed 1.
+const LISTS: [List; 8] = [
+    ("load", 340_000, |seed| of_rules(parts(seed))),
+    ("emit", 43_000, |seed| of_cases(emit_cases(seed))),
+    ("code", 89_000, |seed| of_cases(load_cases(seed))),
+    ("run", 9_600, |seed| of_cases(run_cases(seed))),
+    ("judge", 26_000, |seed| of_cases(judge_cases(seed))),
+    ("make", 30_000, |seed| of_makers(maker_cases(seed))),
+    ("make twice", 16_000, |seed| of_twices(maker_cases(seed))),
+    ("search", 3_500, |seed| of_searches(edge_cases(seed))),
 ];
 
 /// The list that takes long to make. It is left out where only a share is taken.
-const RANDOM: (&str, List) = ("random search", |seed| of_searches(random_cases(seed)));
+const RANDOM: List = ("random search", 8_000, |seed| {
+    of_searches(random_cases(seed))
+});
 
 /// All lists of a seed together have so many calls at least.
 const LEAST: usize = 100_000;
@@ -54,20 +57,30 @@ fn of_makers(cases: Vec<MakerCase>) -> Vec<Call> {
     cases.into_iter().map(of_maker).collect()
 }
 
+fn of_twices(cases: Vec<MakerCase>) -> Vec<Call> {
+    cases.into_iter().filter_map(of_twice).collect()
+}
+
 fn of_searches(cases: Vec<SearchCase>) -> Vec<Call> {
     cases.into_iter().map(of_search).collect()
 }
 
 /// Compares all calls of a seed, or one in `share`, and writes how many there are
-/// of each kind. Answers whether there is no difference, and there are enough.
+/// of each kind. Answers whether there is no difference, and there are enough in
+/// each list and in all.
 pub fn compare(seed: u64, share: usize) -> bool {
     let mut total = 0;
     let mut differences = 0;
+    let mut enough = true;
     let random = (share == 1).then_some(RANDOM);
-    for (kind, list) in LISTS.into_iter().chain(random) {
+    for (kind, least, list) in LISTS.into_iter().chain(random) {
         let calls = list(seed);
         let taken = taken(seed, share, calls.len());
         println!("{kind}: {} cases", taken.len());
+        if let Some(least) = missed(taken.len(), least, share) {
+            println!("seed {seed}, {kind}: fewer than {least} cases");
+            enough = false;
+        }
         total += taken.len();
         for number in taken {
             let call = &calls[number];
@@ -84,11 +97,18 @@ pub fn compare(seed: u64, share: usize) -> bool {
         }
     }
     println!("seed {seed}: {total} cases, {differences} differences");
-    let enough = share > 1 || total >= LEAST;
-    if !enough {
-        println!("seed {seed}: fewer than {LEAST} cases");
+    if let Some(least) = missed(total, LEAST, share) {
+        println!("seed {seed}: fewer than {least} cases");
+        enough = false;
     }
     enough && differences == 0
+}
+
+/// The number of calls that there should be at least, if fewer are taken: the least
+/// number where all are taken, and of any share one.
+fn missed(taken: usize, least: usize, share: usize) -> Option<usize> {
+    let least = if share == 1 { least } else { 1 };
+    (taken < least).then_some(least)
 }
 
 /// Of so many numbers one out of each `share` in turn; which one goes by the seed.
@@ -153,5 +173,18 @@ mod tests {
         }
         assert!(taken(1, 100, 250).len() <= 3);
         assert_ne!(taken(1, 100, 10_000), taken(2, 100, 10_000));
+    }
+
+    #[test]
+    fn too_few_calls_are_missed() {
+        assert_eq!(missed(100, 100, 1), None);
+        assert_eq!(missed(99, 100, 1), Some(100));
+        assert_eq!(missed(1, 100, 2), None);
+        assert_eq!(missed(0, 100, 2), Some(1));
+    }
+
+    #[test]
+    fn a_share_that_takes_nothing_of_a_list_fails() {
+        assert!(!compare(1, usize::MAX));
     }
 }

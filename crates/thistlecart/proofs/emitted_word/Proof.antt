@@ -19,7 +19,7 @@ refusal-word-requires : tie.Need-refusal-word-requires
 refusal-word-requires c κs = subst EmittedFits (c .before .emitted2 .given .1) (c .before .before .before .pre)
 
 returns : tie.Need-returns
-returns c = rw (c .before .emitted .given .1)
+returns c = rw (c .before .emitted .given .1) (omega arith)
 
 returns-2 : tie.Need-returns-2
 returns-2 c = rw (c .before .before .emitted2 .given .1) (c .refusal-word .ensures)

@@ -15,13 +15,13 @@ fits : (c : tie.After-found) → FoundFits (Found.Met (c .found .given .0 .0) (c
 fits c = subst FoundFits (c .found .given .1) (c .before .before .pre)
 
 mul-result : tie.Need-mul-result
-mul-result c = omega (arith, fits (c .before) .0)
+mul-result c = omega (arith, fits (c .before) .0, fits (c .before) .2)
 
 add-result : tie.Need-add-result
-add-result c = omega (arith, fits (c .before) .0)
+add-result c = omega (arith, fits (c .before) .0, fits (c .before) .2)
 
 mul-result-2 : tie.Need-mul-result-2
-mul-result-2 c = omega (arith, fits (c .before) .2)
+mul-result-2 c = omega (arith, fits (c .before) .0, fits (c .before) .2)
 
 add-result-2 : tie.Need-add-result-2
 add-result-2 c = omega (arith, fits (c .before) .0, fits (c .before) .2)
@@ -39,10 +39,10 @@ refusal-word-requires : tie.Need-refusal-word-requires
 refusal-word-requires c κs = subst FoundFits (c .before .found3 .given .1) (c .before .before .before .pre)
 
 returns : tie.Need-returns
-returns c = rw (c .before .found .given .1)
+returns c = rw (c .before .found .given .1) (omega arith)
 
 returns-2 : tie.Need-returns-2
-returns-2 c = rw (c .before .found2 .given .1)
+returns-2 c = rw (c .before .found2 .given .1) (omega arith)
 
 returns-3 : tie.Need-returns-3
 returns-3 c = rw (c .before .before .found3 .given .1) (c .refusal-word .ensures)

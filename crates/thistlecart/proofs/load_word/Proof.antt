@@ -15,10 +15,10 @@ fits : (c : tie.After-loaded) → LoadedFits (Loaded.Accepted (c .loaded .given 
 fits c = subst LoadedFits (c .loaded .given .1) (c .before .before .pre)
 
 mul-result : tie.Need-mul-result
-mul-result c = omega (arith, fits (c .before) .0)
+mul-result c = omega (arith, fits (c .before) .0, fits (c .before) .1)
 
 mul-result-2 : tie.Need-mul-result-2
-mul-result-2 c = omega (arith, fits (c .before) .1)
+mul-result-2 c = omega (arith, fits (c .before) .0, fits (c .before) .1)
 
 add-result : tie.Need-add-result
 add-result c = omega (arith, fits (c .before) .0, fits (c .before) .1)
@@ -30,7 +30,7 @@ refusal-word-requires : tie.Need-refusal-word-requires
 refusal-word-requires c κs = subst LoadedFits (c .before .loaded2 .given .1) (c .before .before .before .pre)
 
 returns : tie.Need-returns
-returns c = rw (c .before .loaded .given .1)
+returns c = rw (c .before .loaded .given .1) (omega arith)
 
 returns-2 : tie.Need-returns-2
 returns-2 c = rw (c .before .before .loaded2 .given .1) (c .refusal-word .ensures)

@@ -32,7 +32,7 @@ add-result : tie.Need-add-result
 add-result c = let small = refused-small (c .before .before .before .made2 .given .0 .0) (c .before .before .before .made2 .given .0 .1 .0) (subst MadeFits (c .before .before .before .made2 .given .1) (c .before .before .before .before .before .pre)) in omega (arith, small, c .before .refusal-word .ensures, c .which-number .ensures)
 
 returns : tie.Need-returns
-returns c = rw (c .before .made .given .1)
+returns c = rw (c .before .made .given .1) (omega arith)
 
 returns-2 : tie.Need-returns-2
 returns-2 c = rw (c .before .before .before .made2 .given .1, ← c .before .refusal-word .ensures, ← c .which-number .ensures)

@@ -2,7 +2,8 @@
 use mathlib.Core.Path.{subst, sym}
 use native.Mathlib.Omega.{arith}
 use Rattle.makers.specs.Making.{conjunction}
-use Rattle.thistlecart.proofs.Fits.{two-fits, conjunction-bytes}
+use Rattle.makers.proofs.Making.{conjunction-bytes}
+use Rattle.thistlecart.proofs.Fits.{two-fits}
 use Rattle.thistlecart.specs.Fits.{MadeFits}
 use borrow.Author.Needs.{needs}
 use Rattle.thistlecart.proofs.thistlecart_both.Statement.{statement}

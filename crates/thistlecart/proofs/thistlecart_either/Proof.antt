@@ -2,7 +2,8 @@
 use mathlib.Core.Path.{subst, sym}
 use native.Mathlib.Omega.{arith}
 use Rattle.makers.specs.Making.{disjunction}
-use Rattle.thistlecart.proofs.Fits.{two-fits, disjunction-bytes}
+use Rattle.makers.proofs.Making.{disjunction-bytes}
+use Rattle.thistlecart.proofs.Fits.{two-fits}
 use Rattle.thistlecart.specs.Fits.{MadeFits}
 use borrow.Author.Needs.{needs}
 use Rattle.thistlecart.proofs.thistlecart_either.Statement.{statement}

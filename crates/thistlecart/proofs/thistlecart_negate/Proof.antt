@@ -2,7 +2,8 @@
 use mathlib.Core.Path.{subst, sym}
 use native.Mathlib.Omega.{arith}
 use Rattle.makers.specs.Making.{negation}
-use Rattle.thistlecart.proofs.Fits.{one-fits, negation-bytes}
+use Rattle.makers.proofs.Making.{negation-bytes}
+use Rattle.thistlecart.proofs.Fits.{one-fits}
 use Rattle.thistlecart.specs.Fits.{MadeFits}
 use borrow.Author.Needs.{needs}
 use Rattle.thistlecart.proofs.thistlecart_negate.Statement.{statement}

@@ -2,7 +2,8 @@
 use mathlib.Core.Path.{subst, sym}
 use native.Mathlib.Omega.{arith}
 use Rattle.makers.specs.Making.{nextFrame}
-use Rattle.thistlecart.proofs.Fits.{one-fits, nextFrame-bytes}
+use Rattle.makers.proofs.Making.{next-bytes}
+use Rattle.thistlecart.proofs.Fits.{one-fits}
 use Rattle.thistlecart.specs.Fits.{MadeFits}
 use borrow.Author.Needs.{needs}
 use Rattle.thistlecart.proofs.thistlecart_next.Statement.{statement}
@@ -12,7 +13,7 @@ next-requires : tie.Need-next-requires
 next-requires c κs = search needs
 
 made-word-requires : tie.Need-made-word-requires
-made-word-requires c κs = subst MadeFits (sym (c .before .before .next .ensures .0)) (one-fits nextFrame _ (c .before .before .before .before .before .before .args .out .now) nextFrame-bytes (λ i. omega (arith, c .before .before .before .before .before .shared-slice-known .given i)))
+made-word-requires c κs = subst MadeFits (sym (c .before .before .next .ensures .0)) (one-fits nextFrame _ (c .before .before .before .before .before .before .args .out .now) next-bytes (λ i. omega (arith, c .before .before .before .before .before .shared-slice-known .given i)))
 
 same-length : tie.Need-same-length
 same-length c = search needs
