@@ -1,9 +1,9 @@
--- What made rules mean. The new bytes are those of the items of a formula, as the rules' bytes are and the operator's; no other items have these bytes and no other formula
--- these items, so where the new bytes are a rule, it is this formula.
+-- What made rules mean. The new bytes are those of the items of a formula, as the rules' bytes are and the operator's; such bytes are read as that formula or refused, so where the new
+-- bytes are a rule, it is this formula.
 use mathlib.Core.Path.{_≡_, refl, sym, ap, _∙_}
 use mathlib.Core.Bool.{Bool, true, false, false≢true, cond}
 use mathlib.Core.List.{List, [], _∷_, _++_, append-nil}
-use mathlib.Core.Logic.{_⊎_}
+use mathlib.Core.Logic.{_⊎_, ⊎-elim}
 use Prim.Native.Nat.{ℕ, _+_, _<_, max}
 use native.Mathlib.Omega.{arith}
 use lib.ListN.{length, drop}
@@ -23,9 +23,9 @@ use Rattle.rules.specs.Items.{bytesOf, ruleBytes}
 use Rattle.rules.specs.Loading.{Items, Reading, accepted, refused, readRule}
 use Rattle.rules.specs.Meaning.{Holds, holds}
 use Rattle.rules.specs.declared.item.Item.{Item}
-use Rattle.rules.proofs.Accepted.{accepted-rule, one-formula}
+use Rattle.rules.proofs.Accepted.{accepted-rule}
 use Rattle.rules.proofs.Agreement.{agreement}
-use Rattle.rules.proofs.SameBytes.{same-items}
+use Rattle.rules.proofs.TooLarge.{read-or-large}
 use Rattle.makers.specs.Making.{negation, conjunction, disjunction, nextFrame, orElse, newMade, oneMade, twoMade}
 use Rattle.makers.specs.Meaning.{Means}
 use Rattle.makers.specs.declared.make.Made.{Made}
@@ -95,14 +95,15 @@ new-read new out n e = go (readRule new) refl e
         (cc, is, f, q)
     go (refused r) q e = absurd (let z : _≡_ {A = ℕ} 0 1 = cc in omega arith)
 
--- and that rule is the formula whose items they spell
+-- and that rule is the formula whose items they spell: such bytes are read as it, or they are refused
 new-means : (h : Formula) (new out : List ℕ) (n : ℕ) → Spells new (postfix h) → newMade new out ≡ Made.Length n → (n ≡ length new) × Means new (Holds h) (horizon h)
 new-means h new out n s e =
     let (own, is, f, read) = new-read new out n e in
-    let r = accepted-rule new is f (s .small) read in
-    let items : is ≡ postfix h = same-items is (postfix h) (r .ranges) (s .ranges) (sym (r .own-bytes) ∙ s .own) in
-    let formula : f ≡ h = one-formula f h (sym (r .own-items) ∙ items) in
-    (own, record { items = is; formula = h; read = rw formula at read; holds = λ c x. x; held = λ c x. x; horizon = refl })
+    let spelt : readRule (ruleBytes (postfix h)) ≡ accepted is f = ap readRule (sym (s .own)) ∙ read in
+    ⊎-elim
+    (λ q. (own, record { items = postfix h; formula = h; read = ap readRule (s .own) ∙ q; holds = λ c x. x; held = λ c x. x; horizon = refl }))
+    (λ q. absurd (let z : _≡_ {A = ℕ} 0 1 = cc (q .1) in omega arith))
+    (read-or-large h (s .ranges))
 
 -- The four makers
 

@@ -43,6 +43,10 @@ module _ {S : Type 0} (state : Clip → S) where
             (m, n, cc),
       )
 
+-- The empty sequence is shorter than every satisfying clip
+pub empty-short : (Meets : Clip → Type 0) → Short Meets []
+empty-short Meets = record { bytes = λ i. omega arith; shorter = λ d s. omega (arith, s .some) }
+
 module _ {S : Type 0} (state : Clip → S) (Meets : Clip → Type 0) where
   -- No list of distinct states is longer than their count
   pub at-most : (n : ℕ) (clips : List Clip) → Counts state Meets n → Distinct state Meets clips → length clips ≤ n
@@ -61,6 +65,4 @@ module _ {S : Type 0} (state : Clip → S) (Meets : Clip → Type 0) where
 
   -- The fresh state is counted
   pub fresh-counted : (n : ℕ) → Counts state Meets n → 1 ≤ n
-  fresh-counted n count =
-      let (i, inside, _) = count .all [] (record { bytes = λ i. omega arith; shorter = λ d s. omega (arith, s .some) }) in
-      omega (arith, inside)
+  fresh-counted n count = let (i, inside, _) = count .all [] (empty-short Meets) in omega (arith, inside)

@@ -17,6 +17,7 @@ use Rattle.paths.specs.Order.{Less}
 use Rattle.paths.specs.Answers.{Satisfying, Short, Counts, met, none, noRoom, Right}
 use Rattle.paths.specs.Searching.{Stepwise, clipAt, frameBytes, Stored, Searching}
 use Rattle.paths.proofs.Order.{less-not, less-trans, less-length}
+use Rattle.paths.proofs.Counting.{empty-short}
 use Rattle.paths.proofs.Clips.{length-more, at-more, pairs-more, longest, trial-length, trial-bytes}
 
 -- A clip that comes no later than another
@@ -46,7 +47,7 @@ module _ {S : Type 0} (state : Clip → S) (Meets : Clip → Type 0) (room : ℕ
       record {
         clips = [] ∷ [];
         more = omega arith;
-        distinct = record { short = (record { bytes = λ i. omega arith; shorter = λ d t. omega (arith, t .some) }, tt); different = λ i j l m. absurd (omega arith) };
+        distinct = record { short = (empty-short Meets, tt); different = λ i j l m. absurd (omega arith) };
       }
 
   module _ (steps : Stepwise state Meets) (clips : List Clip) (frames k b ended : ℕ) (full : Bool) (s : Searching state Meets room clips frames k b ended full) where

@@ -2,13 +2,12 @@
 -- all the bytes; each way out of a turn is a law. And bytes and items determine each other: items that are read stand there by their bytes, one behind the other,
 -- and items whose bytes stand there, each judged fine in its turn, are read. A refusal has the place of its item, behind the bytes of those before it.
 use mathlib.Core.Path.{_≡_, refl, sym, ap, subst, _∙_}
-use mathlib.Core.List.{List, [], _∷_, _++_, append-assoc, append-nil, append-cancel-left}
+use mathlib.Core.List.{List, [], _∷_, _++_, append-assoc, append-nil}
 use mathlib.Core.Logic.{_⊎_, inl, inr, ⊎-elim, by-cases}
 use Prim.Native.Nat.{ℕ, zero, suc, _+_, _-_, _≤_, _<_}
 use native.Mathlib.Decide.{decLt}
 use native.Mathlib.Omega.{arith}
 use lib.ListN.{length, length-append, drop-of-length-le}
-use lib.Seq.{drop-append-seam}
 use Rattle.reading.specs.Buffers.{AllBytes}
 use Rattle.reading.specs.Each.{Each}
 use Rattle.reading.specs.InTurn.{Verdict, fine, bad, Kind, Walked, items, refused, afterRead, afterJudged, inTurn, walked, bytesOfAll}
@@ -238,24 +237,3 @@ module _ {A : Type 0} (kind : Kind A) (own : A → List ℕ) where
   -- the bytes of items that pass are read as these items
   pub walked-there : (is : List A) → 1 ≤ length is → Passes kind [] is → Each (Numbered kind own) is → walked kind (bytesOfAll own is) ≡ items is
   walked-there is some p e = walked-judged is some e ∙ judged-there 0 [] is p
-
-  -- an item whose bytes come first is read first
-  read-first : (i : A) (rest : List ℕ) (m : Numbered kind own i)
-      → itemAt (kind .table) (own i ++ rest) 0 ≡ Read.Item (m .code) (m .first) (m .second) (m .third) (length (own i))
-  read-first i rest m =
-      let s : Stands (own i ++ rest) 0 (own i) (length (own i)) =
-      record { here = rw drop-append-seam; behind = omega arith; inside = simp length-append (omega arith) } in
-      item-there (kind .table) (own i ++ rest) 0 (m .code) (m .first) (m .second) (m .third) (length (own i)) (m .fits) (rw (m .same) s)
-
-  -- so items that have the same bytes are the same
-  pub same-items : (is js : List A) → Each (Numbered kind own) is → Each (Numbered kind own) js → bytesOfAll own is ≡ bytesOfAll own js → is ≡ js
-  unfolding bytesOfAll
-  same-items [] [] d e h = refl
-  same-items [] (j ∷ js) d e h = absurd (omega (arith, turns-suffice (j ∷ js) e, ap length h))
-  same-items (i ∷ is) [] d e h = absurd (omega (arith, turns-suffice (i ∷ is) d, ap length h))
-  same-items (i ∷ is) (j ∷ js) d e h =
-      let p = read-first i (bytesOfAll own is) (d .0) in
-      let q = read-first j (bytesOfAll own js) (e .0) in
-      let here : i ≡ j = cc in
-      let rest : bytesOfAll own is ≡ bytesOfAll own js = append-cancel-left (own i) _ _ (rw (← here) at h) in
-      cc (same-items is js (d .1) (e .1) rest)

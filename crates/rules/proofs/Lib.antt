@@ -13,5 +13,4 @@ pub mod Unique
 pub mod Complete
 pub mod Prefixes
 pub mod Places
-pub mod SameBytes
 pub mod TooLarge
