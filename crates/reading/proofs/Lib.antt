@@ -5,6 +5,7 @@ pub mod Written
 pub mod Refusals
 pub mod Choices
 pub mod Items
+mod Held
 pub mod Bytes
 pub mod Unique
 pub mod InTurn

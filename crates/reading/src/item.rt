@@ -1,4 +1,4 @@
-// Items: the one reader that walks rules and code alike. An item is a code byte and its numbers.
+// Items: a code byte and its numbers, read at a place by the table of codes of rules or of code. `reader` has the reader that walks them.
 ghost use mathlib.Core.List.{[]};
 ghost use mathlib.Core.Path.{_≡_};
 ghost use Prim.Native.Nat.{_+_, _<_};
@@ -105,7 +105,7 @@ fn read_numbers(bytes: &[u8], at: usize, code: u8, count: usize) -> Read
 }
 
 // Reads the item at a place, which may be the end or lie behind it.
-pub fn read_item(table: Table, bytes: &[u8], at: usize) -> Read
+pub(crate) fn item_at(table: Table, bytes: &[u8], at: usize) -> Read
     ensures { λ r. ⌜ r ≡ itemAt table (now (bytes .entry)) at ⌝ }
 {
     if bytes.len() <= at {

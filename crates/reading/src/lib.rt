@@ -3,4 +3,5 @@ pub mod buffer;
 pub mod item;
 pub mod limits;
 pub mod number;
+pub mod reader;
 pub mod refusal;

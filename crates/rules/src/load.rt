@@ -8,8 +8,8 @@ use crate::judge::judge;
 use crate::walk::Walk;
 use reading::item::Read;
 use reading::item::Table;
-use reading::item::read_item;
 use reading::limits::MOST_ITEMS;
+use reading::reader::read_item;
 use reading::refusal::Refusal;
 
 // What loading answers: how many items and which horizon, or the refusal.

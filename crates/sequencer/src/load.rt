@@ -8,8 +8,8 @@ use crate::judge::judge;
 use crate::judge::row_of;
 use reading::item::Read;
 use reading::item::Table;
-use reading::item::read_item;
 use reading::limits::MOST_INSTRUCTIONS;
+use reading::reader::read_item;
 use reading::refusal::Refusal;
 
 // Four numbers stand for an instruction: its code byte, and those behind it.

@@ -1,9 +1,9 @@
--- `read_item` meets its contract: each way is a law of `itemAt`, by the count that `numbers_of` gives.
+-- `item_at` meets its contract: each way is a law of `itemAt`, by the count that `numbers_of` gives.
 use borrow.Author.Needs.{needs}
 use mathlib.Core.Path.{_∙_}
 use Rattle.reading.proofs.Items.{ended, unknown, known}
-use Rattle.reading.proofs.item.read_item.Statement.{statement}
-use Rattle.reading.proofs.item.read_item.Tie as tie
+use Rattle.reading.proofs.item.item_at.Statement.{statement}
+use Rattle.reading.proofs.item.item_at.Tie as tie
 
 returns : tie.Need-returns
 returns c = ended _ _ _ (c .if1 .taken)
@@ -23,8 +23,8 @@ read-numbers-requires c κs = search needs
 returns-3 : tie.Need-returns-3
 returns-3 c = c .read-numbers .ensures ∙ known _ _ _ (search needs) _ (c .before .before .numbers-of .ensures) (c .before .if2 .left)
 
-pub read-item-spec : {M : Type 1} → statement M
-read-item-spec =
+pub item-at-spec : {M : Type 1} → statement M
+item-at-spec =
     tie.close
     (tie.spec
     returns
