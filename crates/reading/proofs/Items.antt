@@ -1,5 +1,4 @@
--- Laws of `numbersFrom` and `itemAt`. `Reading` is where the reader of an item's numbers stands: what it has read is in its array, and the rest, read from here on,
--- makes the item.
+-- Laws of `numbersFrom` and `itemAt`. `Reading` is where `read_numbers` stands: what it has read is in its array, and the rest, read from here on, makes the item.
 use mathlib.Core.Path.{_≡_, refl, sym, subst}
 use mathlib.Core.List.{List, [], _∷_, _++_}
 use mathlib.Core.Logic.{by-cases}
@@ -25,7 +24,7 @@ use Rattle.reading.specs.declared.refusal.Refusal.the-variants.{UnknownC
 use Rattle.reading.proofs.Padded.{padded-none, set-padded, getD-padded}
 
 module _ (bytes : List ℕ) (at code count : ℕ) where
-  -- k numbers are read, and the reader stands at `next`
+  -- k numbers are read, and the next one would stand at `next`
   pub record Reading (numbers : List ℕ) (next k : ℕ) : Type 0 where
     pub read : List ℕ
     pub so-many : k ≡ length read

@@ -2,11 +2,11 @@
 -- function's own `ensures`.
 use mathlib.Core.Path.{_≡_, sym, _∙_}
 use Rattle.reading.proofs.buffer.write_bytes.Reads as write-bytes
-use Rattle.reading.proofs.reader.read_item.Reads as read-item
 use Rattle.reading.proofs.limits.all.Reads as all
 use Rattle.reading.proofs.number.read_number.Reads as read-number
 use Rattle.reading.proofs.number.wide.Reads as wide
 use Rattle.reading.proofs.number.write_number.Reads as write-number
+use Rattle.reading.proofs.reader.read_item.Reads as read-item
 use Rattle.reading.proofs.refusal.number.Reads as number
 use Rattle.reading.proofs.refusal.place.Reads as place
 

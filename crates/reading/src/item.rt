@@ -1,4 +1,4 @@
-// Items: a code byte and its numbers, read at a place by the table of codes of rules or of code. `reader` has the reader that walks them.
+// Items: a code byte and its numbers. `item_at` reads one at a place, by the table of rules or of code; `reader.rt` has the reader that walks them.
 ghost use mathlib.Core.List.{[]};
 ghost use mathlib.Core.Path.{_≡_};
 ghost use Prim.Native.Nat.{_+_, _<_};

@@ -1,5 +1,5 @@
-// The one reader that walks rules and code alike and always knows its place. Its functions take it apart and leave the work to `item_at`, on the bytes and the place.
-// Above them, `read_item` has plain parameters: the loaders call it and keep the place as a number.
+// The one reader that walks rules and code alike and always knows its place. `item` takes it apart and leaves the work to `item_at`, on the bytes and the place.
+// Above it, `read_item` has plain parameters: the loaders call it and keep the place as a number.
 ghost use mathlib.Core.Path.{_≡_};
 ghost use Rattle.reading.specs.Items.{itemAt};
 use crate::item::Read;
@@ -14,7 +14,7 @@ pub(crate) struct Reader<'a> {
 
 impl<'a> Reader<'a> {
     // A reader over the bytes, at their start.
-    fn over(bytes: &'a [u8]) -> Reader<'a>
+    fn new(bytes: &'a [u8]) -> Reader<'a>
         ensures { λ r. ⌜ (r .bytes ≡ bytes .entry) × (r .at ≡ 0) ⌝ }
     {
         Reader { bytes, at: 0 }
@@ -27,7 +27,7 @@ impl<'a> Reader<'a> {
         item_at(table, self.bytes, self.at)
     }
 
-    // The reader moved on past an item, to the place behind it, which reading it told.
+    // The reader moved on to another place: past an item, to the one behind it that `item` told.
     fn moved(self, next: usize) -> Reader<'a>
         ensures { λ r. ⌜ (r .bytes ≡ self .entry .bytes) × (r .at ≡ next) ⌝ }
     {
@@ -38,9 +38,9 @@ impl<'a> Reader<'a> {
     }
 }
 
-// What stands at a place, which may be the end or lie behind it: a reader over the bytes is moved on past the items before the place.
+// What stands at a place, which may be the end or lie behind it: a reader over the bytes is moved on to the place.
 pub fn read_item(table: Table, bytes: &[u8], at: usize) -> Read
     ensures { λ r. ⌜ r ≡ itemAt table (now (bytes .entry)) at ⌝ }
 {
-    Reader::over(bytes).moved(at).item(table)
+    Reader::new(bytes).moved(at).item(table)
 }
