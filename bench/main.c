@@ -1,5 +1,5 @@
 // Times the proved run beside the same run in C, and prints a table. Both get the same code and the same clip, by calls through a pointer, in rounds
-// by turns; the best round counts. The status is 1 if what they answer or write differs, or if the library takes more than 1.4 times as long.
+// by turns; the best round counts. The status is 1 if what they answer or write differs, else 2 if the library takes more than 1.3 times as long.
 #include <stdbool.h>
 #include <stdio.h>
 #include <string.h>
@@ -9,7 +9,7 @@
 
 enum { FRAMES = 65535, ROUNDS = 30, MACHINES = 2 };
 
-static const double most = 1.4;
+static const double most = 1.3;
 
 static run_function *volatile const machines[MACHINES] = {thistlecart_run, machine_run};
 
@@ -130,8 +130,10 @@ static double seconds(void) {
     return (double)t.tv_sec + 1e-9 * (double)t.tv_nsec;
 }
 
-// Times one code and prints its line. Answers whether all is as it has to be.
-static bool bench(const uint8_t *clip) {
+static unsigned rows, different, missed;
+
+// Times one code and prints its line.
+static void bench(const uint8_t *clip) {
     static uint8_t out[MACHINES][FRAMES];
     double best[MACHINES] = {1e9, 1e9};
     uint64_t answer[MACHINES] = {1, 1};
@@ -152,8 +154,10 @@ static bool bench(const uint8_t *clip) {
         ones += out[1][n];
     double ratio = best[0] / best[1];
     printf("%12u %6u %6u %9u %10.1f %6.1f %6.2f  %s%s\n", code.instructions, code.reaches, code.distances, ones, best[0] / FRAMES * 1e9,
-           best[1] / FRAMES * 1e9, ratio, same ? "same" : "DIFFERENT", ratio > most ? ", TOO SLOW" : "");
-    return same && ratio <= most;
+           best[1] / FRAMES * 1e9, ratio, same ? "same" : "DIFFERENT", ratio > most ? ", MISSED" : "");
+    rows++;
+    different += !same;
+    missed += ratio > most;
 }
 
 int main(void) {
@@ -163,12 +167,12 @@ int main(void) {
     static uint8_t clip[FRAMES];
     for (int n = 0; n < FRAMES; n++)
         clip[n] = (uint8_t)draw();
-    bool good = true;
-    printf("%d frames, best of %d rounds, nanoseconds a frame\n", FRAMES, ROUNDS);
-    printf("instructions  REACH delays frames 1    library      C  ratio  verdicts\n");
+    printf("run: %d frames, best of %d rounds, nanoseconds a frame; target: ratio at most %.1f\n", FRAMES, ROUNDS, most);
+    printf("instructions  REACH delays frames 1    library      C  ratio  answers\n");
     for (size_t k = 0; k < sizeof codes / sizeof codes[0]; k++) {
         emit(codes[k].size, codes[k].reaches, codes[k].distance);
-        good &= bench(clip);
+        bench(clip);
     }
-    return !good;
+    printf("run: %u rows, %u different; %u targets, %u missed\n", rows, different, rows, missed);
+    return different ? 1 : missed ? 2 : 0;
 }

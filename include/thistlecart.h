@@ -143,8 +143,9 @@ uint64_t thistlecart_load(const uint8_t *rule, size_t rule_length);
 // for no more than 65,536; what it holds before does not matter. A state is what the sequencer's
 // registers hold after the frames of a clip, under the rule's code. The states counted are those
 // that the clips shorter than the shortest satisfying one lead to (all clips, if none satisfies),
-// the clip of no frames among them, so there is one at least. Each of them needs a record, and the
-// time grows with the square of their number: some 4,000 states take about half a minute.
+// the clip of no frames among them, so there is one at least. Each of them needs a record. The time
+// grows with their number: a full table takes seconds if the rule names all eight flags, and about
+// half as long for each flag that it does not name.
 //
 // Refuses, in this order: the rule (1 to 9); a witness buffer shorter than horizon + 1 (14); a
 // table with fewer records than states (15). Refusals 1 to 9 and 14 leave both buffers as they

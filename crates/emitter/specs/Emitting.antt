@@ -1,13 +1,15 @@
 -- What the emitter answers and writes. Document 01: "Emit: rule, 16", "16 output buffer shorter than the answer", "An entry that writes an answer starts at the buffer's first byte,
 -- and the bytes behind the answer stay; emitter and makers also give its length."
+use mathlib.Core.Path.{_≡_}
 use mathlib.Core.Bool.{cond}
 use mathlib.Core.List.{List, []}
 use Prim.Native.Nat.{ℕ, _+_, _*_}
 use lib.ListN.{length}
-use Rattle.reading.specs.Buffers.{tooShort, over}
+use Rattle.reading.specs.Buffers.{AllBytes, tooShort, over}
 use Rattle.reading.specs.Limits.{limits}
 use Rattle.reading.specs.declared.refusal.Refusal.{Refusal}
-use Rattle.rules.specs.Loading.{Reading, accepted, refused}
+use Rattle.rules.specs.Loading.{Reading, accepted, refused, readRule, ruleOf}
+use Rattle.rules.specs.declared.load.Rule.{Rule}
 use Rattle.emitter.specs.Translation.{codeBytes}
 use Rattle.emitter.specs.declared.emit.Emitted.{Emitted}
 
@@ -23,6 +25,11 @@ mostCodeBytes = 5 * mostInstructions + 2 * limits .timed
 abbrev pub bytesFor : Reading → List ℕ
 bytesFor (accepted is f) = codeBytes f
 bytesFor (refused r) = []
+
+-- A rule that was loaded from bytes
+pub record Loads (bytes : List ℕ) (rule : Rule) : Type 0 where
+  pub small : AllBytes bytes
+  pub own : rule ≡ ruleOf (readRule bytes)
 
 -- What emitting answers: the length of the code, or the refusal
 abbrev pub emittedOf : Reading → List ℕ → Emitted

@@ -1,11 +1,14 @@
 // The emitter: a rule's bytes in, sequencer code out.
+ghost use mathlib.Core.List.{List};
 ghost use mathlib.Core.Path.{_≡_};
+ghost use Prim.Native.Nat.{ℕ};
 ghost use Rattle.rules.specs.Loading.{readRule};
-ghost use Rattle.emitter.specs.Emitting.{mostCodeBytes, emittedOf, outAfter};
+ghost use Rattle.emitter.specs.Emitting.{mostCodeBytes, Loads, emittedOf, outAfter};
 use crate::emission::emit_items;
 use bytes::copy;
 use reading::refusal::Refusal;
 use rules::load::Loaded;
+use rules::load::Rule;
 use rules::load::decode;
 
 // A bound on the bytes of emitted code: a buffer of so many always holds it.
@@ -24,17 +27,16 @@ pub fn most_code() -> usize
     MOST_CODE
 }
 
-// Emits the code of a rule into a buffer, from its first byte on; the bytes behind the code stay. A refusal, of the rule, then 16, changes
-// nothing.
-pub fn emit(rule: &[u8], out: &mut [u8]) -> Emitted
-    ensures { λ r. ⌜ (r ≡ emittedOf (readRule (now (rule .entry))) (now (out .entry))) × (now (out .exit) ≡ outAfter r (readRule (now (rule .entry))) (now (out .entry))) ⌝ }
+// Emits the code of a rule that was loaded, as `emit` does for its bytes; a rule that was refused gives its refusal.
+pub fn emit_rule(rule: Rule, out: &mut [u8]) -> Emitted
+    requires { ⌜ ((bytes : List ℕ) × Loads bytes rule) ⌝ }
+    ensures { λ r. ⌜ ((bytes : List ℕ) → Loads bytes rule → (r ≡ emittedOf (readRule bytes) (now (out .entry))) × (now (out .exit) ≡ outAfter r (readRule bytes) (now (out .entry)))) ⌝ }
 {
-    let read = decode(rule);
-    let loaded = read.loaded;
+    let loaded = rule.loaded;
     match loaded {
         Loaded::Accepted { items, horizon: _ } => {
             let mut code = [0; MOST_CODE];
-            let length = emit_items(read, items, &mut code);
+            let length = emit_items(rule, items, &mut code);
             if out.len() < length {
                 return Emitted::Refused(Refusal::ShortOutput);
             }
@@ -43,4 +45,12 @@ pub fn emit(rule: &[u8], out: &mut [u8]) -> Emitted
         }
         Loaded::Refused(refusal) => Emitted::Refused(refusal),
     }
+}
+
+// Emits the code of a rule into a buffer, from its first byte on; the bytes behind the code stay. A refusal, of the rule, then 16, changes
+// nothing.
+pub fn emit(rule: &[u8], out: &mut [u8]) -> Emitted
+    ensures { λ r. ⌜ (r ≡ emittedOf (readRule (now (rule .entry))) (now (out .entry))) × (now (out .exit) ≡ outAfter r (readRule (now (rule .entry))) (now (out .entry))) ⌝ }
+{
+    emit_rule(decode(rule), out)
 }

@@ -8,8 +8,8 @@ use native.Mathlib.Decide.{decLe, decLt}
 use native.Mathlib.Numerals.{add-one}
 use native.Mathlib.Omega.{arith}
 use borrow.Author.Tests.{lt-ltb, le-ltb}
-use lib.ListN.{length, take, replicate, length-take, List·getD-eq-default}
-use lib.Seq.{getD-take, take-at}
+use lib.ListN.{length, getD, take, drop, replicate, length-take, length-replicate, getD-replicate, List·getD-eq-default}
+use lib.Seq.{getD-take, getD-drop, take-at}
 use Rattle.reading.specs.Buffers.{AllBytes, over}
 use Rattle.reading.specs.Each.{Each}
 use Rattle.reading.specs.Frames.{Clip}
@@ -19,7 +19,7 @@ use Rattle.reading.specs.declared.refusal.Refusal.{Refusal}
 use Rattle.rules.specs.Accepted.{IsRule, mostHorizon}
 use Rattle.rules.specs.Formula.{Formula, horizon}
 use Rattle.rules.specs.Good.{InRange, postfix}
-use Rattle.rules.specs.Loading.{Items, accepted, readRule, loadedOf}
+use Rattle.rules.specs.Loading.{Items, accepted, readRule, loadedOf, ruleOf}
 use Rattle.rules.specs.Meaning.{Holds, holds}
 use Rattle.rules.proofs.Accepted.{accepted-rule, loaded-accepted, loaded-refused}
 use Rattle.rules.proofs.Agreement.{agreement}
@@ -30,6 +30,7 @@ use Rattle.sequencer.specs.Code.{Code}
 use Rattle.sequencer.specs.Loading.{readCode, programOf}
 use Rattle.sequencer.specs.Programs.{Sound, codeIn}
 use Rattle.rules.specs.declared.load.Loaded.{Loaded}
+use Rattle.rules.specs.declared.load.Rule.{Rule}
 use Rattle.sequencer.specs.declared.load.Loaded as program
 use Rattle.sequencer.specs.declared.load.Program.{Program}
 use Rattle.sequencer.proofs.Accepted.{ready-code}
@@ -40,10 +41,12 @@ use Rattle.emitter.proofs.Accepted.{code-some, good-code, code-accepted}
 use Rattle.emitter.proofs.Emitting.{always-suffices}
 use Rattle.emitter.proofs.Wires.{output-holds}
 use Rattle.paths.specs.Answers.{First, Answer, met, none, noRoom, Right}
+use Rattle.paths.proofs.Chains.{chained-none}
 use Rattle.paths.proofs.Order.{shorter-less}
 use Rattle.paths.proofs.Unique.{first-alike, right-alike}
 use Rattle.finder.specs.Exploring.{Hits, Ready, Ends}
 use Rattle.finder.specs.Finding.{roomOf, foundOf, witnessAfter, Answers, shortWitness, SearchSays}
+use Rattle.finder.specs.Records.{headPlace, recordAt}
 use Rattle.finder.specs.Searches.{CanTell, Tells, CanSearch, Searchable, RuleAnswers}
 use Rattle.finder.specs.declared.explore.End.{End}
 use Rattle.finder.specs.declared.search.Found.{Found}
@@ -53,9 +56,28 @@ room-fits : (table : List ℕ) → (roomOf table * limits .record_bytes ≤ leng
 unfolding roomOf
 room-fits table = (omega arith, omega arith)
 
-pub can-explore : (numbers : List ℕ) (n : ℕ) (table : List ℕ) (room : ℕ) → room ≡ roomOf table → Sound numbers n → Ready numbers n room table
-can-explore numbers n table room own sound =
-    record { sound = sound; holds = record { fits = rw own (room-fits table .0); most = rw own (room-fits table .1) } }
+-- In a table of zeros every byte of a record is 0
+zeros : (size j : ℕ) → _≡_ {A = ℕ} (getD (replicate size 0) j 0) 0
+zeros size j =
+    by-cases (decLt j size) (getD-replicate size j 0 0) λ h. List·getD-eq-default (replicate size 0) 0 {n = j} (omega (arith, length-replicate {A = ℕ} size 0))
+
+zero-record : (size m j : ℕ) → _≡_ {A = ℕ} (getD (recordAt (replicate size 0) m) j 0) 0
+zero-record size m j = let start = m * limits .record_bytes in
+    by-cases (decLt j (limits .record_bytes)) (λ h. getD-take (limits .record_bytes) (drop start (replicate size 0)) j 0 h ∙ getD-drop start (replicate size 0) j 0 ∙ zeros size (start + j)) λ h.
+    List·getD-eq-default (recordAt (replicate size 0) m) 0 {n = j} (omega (arith, length-take {A = ℕ} (limits .record_bytes) (drop start (replicate size 0))))
+
+pub cleared-size : (table cleared : List ℕ) → cleared ≡ replicate (length table) 0 → length cleared ≡ length table
+cleared-size table cleared zero = rw zero (length-replicate (length table) 0)
+
+-- A table that is all zero has an empty index
+pub can-explore : (numbers : List ℕ) (n : ℕ) (table cleared : List ℕ) (room : ℕ) → room ≡ roomOf table → cleared ≡ replicate (length table) 0 → Sound numbers n → Ready numbers n room cleared
+can-explore numbers n table cleared room own zero sound =
+    let size = length table in
+    record {
+      sound = sound;
+      holds = record { fits = omega (arith, own, room-fits table .0, cleared-size table cleared zero); most = rw own (room-fits table .1) };
+      indexed = chained-none _ _ _ room (λ b h. rw zero (omega (arith, zero-record size b headPlace, zero-record size b (headPlace + 1), zero-record size b (headPlace + 2))));
+    }
 
 -- What exploring ends with can be told, and is a right answer
 module _ (numbers : List ℕ) (n : ℕ) (table witness : List ℕ) (room : ℕ) (own : room ≡ roomOf table) (after : List ℕ) (same : length after ≡ length table) where
@@ -169,13 +191,17 @@ module _ (rule : List ℕ) (small : AllBytes rule) (is : Items) (f : Formula) (r
         }
 
 -- What `search` says, by what loading the rule answers
-module _ (rule : List ℕ) (answer : Loaded) (own : answer ≡ loadedOf (readRule rule)) where
-  pub says-refused : (table witness : List ℕ) (r : Refusal) → answer ≡ Loaded.Refused r → SearchSays (readRule rule) table witness (Found.Refused r) table witness
-  says-refused table witness r e = rw (loaded-refused (readRule rule) r (sym e ∙ own)) (record { own-answer = refl; own-table = refl; own-witness = refl })
+module _ (rule : List ℕ) (read : Rule) (loads : read ≡ ruleOf (readRule rule)) where
+  own : read .loaded ≡ loadedOf (readRule rule)
+  unfolding ruleOf
+  own = ap (λ r. r .loaded) loads
 
-  module _ (n h : ℕ) (e : answer ≡ Loaded.Accepted n h) where
+  pub says-refused : (table witness : List ℕ) (r : Refusal) → Loaded.Refused r ≡ read .loaded → SearchSays (readRule rule) table witness (Found.Refused r) table witness
+  says-refused table witness r e = rw (loaded-refused (readRule rule) r (e ∙ own)) (record { own-answer = refl; own-table = refl; own-witness = refl })
+
+  module _ (n h : ℕ) (e : Loaded.Accepted n h ≡ read .loaded) where
     rule-read : (is : Items) × (f : Formula) × (readRule rule ≡ accepted is f) × (n ≡ length is) × (h ≡ horizon f)
-    rule-read = loaded-accepted (readRule rule) n h (sym e ∙ own)
+    rule-read = loaded-accepted (readRule rule) n h (e ∙ own)
 
     pub horizon-near : AllBytes rule → h ≤ mostHorizon
     horizon-near small = let (is, f, reads, many, near) = rule-read in omega (arith, accepted-rule rule is f small reads .near)
@@ -188,8 +214,8 @@ module _ (rule : List ℕ) (answer : Loaded) (own : answer ≡ loadedOf (readRul
           rw (reads, l) (record { own-answer = refl; own-table = refl; own-witness = refl })
 
       module _ (long : h + 1 ≤ length witness) where
-        pub searchable : Searchable rule witness
-        searchable = let (is, f, reads, many, near) = rule-read in record { is = is; formula = f; reads = reads; long = omega arith }
+        pub searchable : AllBytes rule → Searchable rule read witness
+        searchable small = let (is, f, reads, many, near) = rule-read in record { loads = record { small = small; own = loads }; is = is; formula = f; reads = reads; long = omega arith }
 
         pub says-answers : (table : List ℕ) (r : Found) (table′ witness′ : List ℕ) → RuleAnswers rule table witness r table′ witness′ → SearchSays (readRule rule) table witness r table′ witness′
         says-answers table r table′ witness′ answers =

@@ -15,7 +15,7 @@ use Rattle.reading.specs.Frames.{hasFlag}
 use Rattle.reading.specs.Limits.{limits}
 use Rattle.sequencer.specs.Running.{byteOf}
 use Rattle.sequencer.specs.declared.registers.Registers.{Registers}
-use Rattle.finder.specs.Records.{counterBytes, keyBytes, bitsValue, nibbleOf, halfOf, keyByte, Whole, Keeps, KeptBy, KeyWritten, CountersOf, DelaysOf, Has}
+use Rattle.finder.specs.Records.{counterBytes, keyBytes, bitsValue, nibbleOf, halfOf, keyByte, Whole, Keeps, KeptBy, KeyWritten, CountersOf, DelaysOf, linkPlace, chainPlace, LinkWritten, Written, framePlace}
 
 -- Bits as numbers
 
@@ -175,36 +175,42 @@ kept-by cs ds kept k = rw (counters-kept k cs, delays-kept k ds)
 pub keeps-one : (bytes : List ℕ) (r s : Registers) → Keeps bytes r → Keeps bytes s → r ≡ s
 keeps-one bytes r s h k = kept-by (counters-own h) (delays-own h) s k
 
--- A record is written: behind the registers come the link's bytes and the frame byte
+-- A record is written: behind the registers come the link's bytes, the frame byte, and the bytes of the record before it in its bucket
 
--- a store of v at i: v stands there, and what is below and the length stay
-record Stored (xs ys : List ℕ) (i v : ℕ) : Type 0 where
-  own : getD ys i 0 ≡ v
-  below : (j : ℕ) → j < i → getD ys j 0 ≡ getD xs j 0
-  same : length ys ≡ length xs
-
-stored : (xs : List ℕ) (i v : ℕ) → i < length xs → Stored xs (set xs i v) i v
-stored xs i v h =
+-- the three bytes of a link
+pub link-stored : (bytes : List ℕ) (at link : ℕ) → at + 3 ≤ length bytes → LinkWritten at link bytes (set (set (set bytes at (link % 256)) (at + 1) (link / 256 % 256)) (at + 2) (link / 65536))
+link-stored bytes at link room =
+    let low = link % 256 in
+    let middle = link / 256 % 256 in
+    let high = link / 65536 in
+    let one = set bytes at low in
+    let two = set one (at + 1) middle in
+    let long : length one ≡ length bytes = length-set bytes at low in
+    let longer : length two ≡ length bytes = length-set one (at + 1) middle ∙ long in
+    let first = getD-set-other two (at + 2) at high 0 (λ q. absurd (omega arith)) ∙ getD-set-other one (at + 1) at middle 0 (λ q. absurd (omega arith)) ∙ getD-set-same bytes at low 0 (omega arith) in
+    let second = getD-set-other two (at + 2) (at + 1) high 0 (λ q. absurd (omega arith)) ∙ getD-set-same one (at + 1) middle 0 (omega arith) in
+    let third = getD-set-same two (at + 2) high 0 (omega arith) in
+    let other : (j : ℕ) → (j ≡ at → ⊥) → (j ≡ at + 1 → ⊥) → (j ≡ at + 2 → ⊥) → getD (set two (at + 2) high) j 0 ≡ getD bytes j 0 =
+    λ j a b c. getD-set-other two (at + 2) j high 0 c ∙ getD-set-other one (at + 1) j middle 0 b ∙ getD-set-other bytes at j low 0 a in
     record {
-      own = getD-set-same xs i v 0 h;
-      below = λ j l. getD-set-other xs i j v 0 (λ q. absurd (omega arith));
-      same = length-set xs i v;
+      own = omega (arith, first, second, third);
+      below = λ j l. other j (λ q. absurd (omega arith)) (λ q. absurd (omega arith)) (λ q. absurd (omega arith));
+      behind = λ j l. other j (λ q. absurd (omega arith)) (λ q. absurd (omega arith)) (λ q. absurd (omega arith));
+      same = length-set two (at + 2) high ∙ longer;
     }
 
-pub has-all : {r : Registers} {before after : List ℕ} → KeyWritten r before after → length before ≡ limits .record_bytes → (link frame : ℕ) → Has (set (set (set (set after keyBytes (link % 256)) (keyBytes + 1) (link / 256 % 256)) (keyBytes + 2) (link / 65536)) (keyBytes + 3) frame) r link frame
-has-all {after} w all link frame =
-    let one = set after keyBytes (link % 256) in
-    let two = set one (keyBytes + 1) (link / 256 % 256) in
-    let three = set two (keyBytes + 2) (link / 65536) in
-    let a = stored after keyBytes (link % 256) (omega (arith, w .same)) in
-    let b = stored one (keyBytes + 1) (link / 256 % 256) (omega (arith, a .same, w .same)) in
-    let c = stored two (keyBytes + 2) (link / 65536) (omega (arith, b .same, a .same, w .same)) in
-    let d = stored three (keyBytes + 3) frame (omega (arith, c .same, b .same, a .same, w .same)) in
-    let up : (j : ℕ) → j ≤ keyBytes → getD (set three (keyBytes + 3) frame) j 0 ≡ getD one j 0 = λ j h. d .below j (omega arith) ∙ c .below j (omega arith) ∙ b .below j (omega arith) in
-    let second = d .below (keyBytes + 1) (omega arith) ∙ c .below (keyBytes + 1) (omega arith) ∙ b .own in
-    let third = d .below (keyBytes + 2) (omega arith) ∙ c .own in
+-- the parts of a record
+pub written-all : {r : Registers} {before keyed linked after : List ℕ} {link frame chain : ℕ} → KeyWritten r before keyed → LinkWritten linkPlace link keyed linked → LinkWritten chainPlace chain (set linked framePlace frame) after → length before ≡ limits .record_bytes → Written r link frame chain before after
+written-all {linked} {after} {frame} k l c all =
+    let under : (j : ℕ) → j < framePlace → getD after j 0 ≡ getD linked j 0 = λ j h. c .below j (omega arith) ∙ getD-set-other linked framePlace j frame 0 (λ q. absurd (omega arith)) in
     record {
-      keeps = record { whole = w .keeps .whole; own = λ j h. up j (omega arith) ∙ a .below j h ∙ w .keeps .own j h };
-      own-link = omega (arith, up keyBytes (omega arith), a .own, second, third);
-      own-frame = d .own;
+      has =
+          record {
+            keeps = record { whole = k .keeps .whole; own = λ j h. under j (omega arith) ∙ l .below j h ∙ k .keeps .own j h };
+            own-link = omega (arith, l .own, under keyBytes (omega arith), under (keyBytes + 1) (omega arith), under (keyBytes + 2) (omega arith));
+            own-frame = c .below framePlace (omega arith) ∙ getD-set-same linked framePlace frame 0 (omega (arith, l .same, k .same));
+          };
+      own-chain = c .own;
+      behind = λ j h. c .behind j (omega arith) ∙ getD-set-other linked framePlace j frame 0 (λ q. absurd (omega arith)) ∙ l .behind j (omega arith) ∙ k .others j (omega arith);
+      same = c .same ∙ length-set linked framePlace frame ∙ l .same ∙ k .same;
     }

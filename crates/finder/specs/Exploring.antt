@@ -2,10 +2,9 @@
 use mathlib.Core.Path.{_≡_}
 use mathlib.Core.Bool.{Bool, true, false}
 use mathlib.Core.List.{List, _∷_}
-use Prim.Native.Nat.{ℕ, _+_, _*_, _≤_, _<_}
+use Prim.Native.Nat.{ℕ, _+_, _<_}
 use lib.ListN.{length}
 use Rattle.reading.specs.Frames.{Clip}
-use Rattle.reading.specs.Limits.{limits}
 use Rattle.sequencer.specs.After.{stepsOver}
 use Rattle.sequencer.specs.Bits.{output}
 use Rattle.sequencer.specs.Code.{Code}
@@ -15,8 +14,10 @@ use Rattle.sequencer.specs.Stepping.{advancedBy}
 use Rattle.sequencer.specs.declared.registers.Registers.{Registers}
 use Rattle.paths.specs.Answers.{met, none, noRoom, Right}
 use Rattle.paths.specs.Searching.{clipAt, frameBytes, Searching}
-use Rattle.finder.specs.Records.{Keeps, recordAt}
-use Rattle.finder.specs.Tables.{Shows}
+use Rattle.finder.specs.Flags.{PassesOver}
+use Rattle.finder.specs.Index.{Indexed}
+use Rattle.finder.specs.Records.{Keeps, SameState, recordAt}
+use Rattle.finder.specs.Tables.{HasRoom, Shows}
 use Rattle.finder.specs.declared.explore.Kept.{Kept}
 use Rattle.finder.specs.declared.explore.End.{End}
 
@@ -24,17 +25,13 @@ use Rattle.finder.specs.declared.explore.End.{End}
 abbrev pub Hits : Code → Clip → Type 0
 Hits code c = output code c ≡ true
 
--- A table that holds so many records, no more than 01 allows
-pub record HasRoom (room : ℕ) (table : List ℕ) : Type 0 where
-  pub fits : room * limits .record_bytes ≤ length table
-  pub most : room ≤ limits .records
-
 -- The search before trial (k, b), with the records of the stored states
 pub record Exploring (code : Code) (room : ℕ) (table : List ℕ) (k b ended : ℕ) (kept : Kept) : Type 0 where
   pub clips : List Clip
   pub frames : ℕ
   pub number : length clips ≡ kept .stored
   pub holds : HasRoom room table
+  pub indexed : Indexed room table (kept .stored)
   pub keeps : (i : ℕ) → i < length clips → Keeps (recordAt table i) (stepsOver code (clipAt clips i))
   pub shows : (i : ℕ) → i < length clips → Shows table i (clipAt clips i)
   pub searching : Searching (stepsOver code) (Hits code) room clips frames k b ended (kept .full)
@@ -58,15 +55,16 @@ pub record Misses (code : Code) (room : ℕ) (table : List ℕ) (k b ended : ℕ
 abbrev pub CanKeep : ℕ → List ℕ → ℕ → ℕ → Kept → Registers → Type 0
 CanKeep room table k b kept r = (code : Code) × (ended : ℕ) × Misses code room table k b ended kept r
 
--- What keeping leaves: the search is before the next trial, and the record of state k is as before
+-- What keeping leaves: the search is before the next trial, and the record of state k keeps what it had
 abbrev pub Keeping : ℕ → List ℕ → List ℕ → ℕ → ℕ → Kept → Registers → Kept → Type 0
 Keeping room before after k b kept r next =
     (code : Code) (ended : ℕ) → Misses code room before k b ended kept r
-    → Exploring code room after k (b + 1) ended next × (recordAt after k ≡ recordAt before k)
+    → Exploring code room after k (b + 1) ended next × SameState (recordAt before k) (recordAt after k)
 
--- What the trials of a length need: sound code, and states of that length from the first on
-pub record Tries (numbers : List ℕ) (n room : ℕ) (table : List ℕ) (first ended : ℕ) (kept : Kept) : Type 0 where
+-- What the trials of a length need: sound code, bytes that can be passed over with it, and states of that length from the first on
+pub record Tries (numbers : List ℕ) (n : ℕ) (passed : List Bool) (room : ℕ) (table : List ℕ) (first ended : ℕ) (kept : Kept) : Type 0 where
   pub sound : Sound numbers n
+  pub passes : PassesOver (codeIn numbers n) passed
   pub exploring : Exploring (codeIn numbers n) room table first 0 ended kept
 
 -- What they come to: the first trial that satisfies, or all are behind
@@ -74,10 +72,11 @@ abbrev pub TriedTo : Code → ℕ → List ℕ → ℕ → ℕ → ℕ → Kept 
 TriedTo code room table ended state frame kept true = Met code room table state frame ended
 TriedTo code room table ended state frame kept false = Exploring code room table ended 0 ended kept
 
--- What exploring needs: sound code, and a table with so many records
+-- What exploring needs: sound code, and a table with so many records and an empty index
 pub record Ready (numbers : List ℕ) (n room : ℕ) (table : List ℕ) : Type 0 where
   pub sound : Sound numbers n
   pub holds : HasRoom room table
+  pub indexed : Indexed room table 0
 
 -- What exploring comes to
 abbrev pub Ends : Code → ℕ → List ℕ → End → Type 0

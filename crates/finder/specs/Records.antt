@@ -1,11 +1,13 @@
 -- The table's records. Document 01: "A record takes 80 bytes". It keeps the registers of a state, two bytes for each counter, lowest first, and a bit for each delay bit; the link to the
--- record that it came from, as its number and one more, or 0; and the frame byte in front. Contracts of inner functions cite it; `search` says nothing of it.
+-- record that it came from, as its number and one more, or 0; the frame byte in front; and, for the index, the record before it in its bucket and the last record of a bucket. Contracts
+-- of inner functions cite it; `search` says nothing of it.
 use mathlib.Core.Path.{_≡_}
 use mathlib.Core.Bool.{Bool, true, false, cond}
 use mathlib.Core.List.{List}
 use Prim.Native.Nat.{ℕ, zero, suc, _+_, _*_, _-_, _/_, _%_, _≤_, _<_}
 use lib.Dec.{ltb}
 use lib.ListN.{length, getD, take, drop}
+use Rattle.reading.specs.Buffers.{byteValues, AllBytes}
 use Rattle.reading.specs.Frames.{hasFlag}
 use Rattle.reading.specs.Limits.{limits}
 use Rattle.sequencer.specs.Running.{byteOf}
@@ -37,6 +39,23 @@ halfOf counter (suc n) = counter / 256
 unfoldable pub keyByte : Registers → ℕ → ℕ
 keyByte r j = cond (ltb j counterBytes) (halfOf (getD (r .counters) (j / 2) 0) (j % 2)) (bitsValue 8 (drop (8 * (j - counterBytes)) (r .delays)))
 
+-- So many bytes as a number, the first lowest
+unfoldable pub valueOf : ℕ → (ℕ → ℕ) → ℕ → ℕ
+valueOf zero byte at = 0
+valueOf (suc n) byte at = byte at + 256 * valueOf n byte (at + 1)
+
+-- The bytes of a word
+abbrev pub wordBytes : ℕ
+wordBytes = 8
+
+-- A word of a row of bytes, by its number
+abbrev pub wordOf : (ℕ → ℕ) → ℕ → ℕ
+wordOf byte i = valueOf wordBytes byte (wordBytes * i)
+
+-- Bytes by their places
+abbrev pub byteAt : List ℕ → ℕ → ℕ
+byteAt bytes j = getD bytes j 0
+
 -- Registers: so many counters and so many delay bits
 pub record Whole (r : Registers) : Type 0 where
   pub counters : length (r .counters) ≡ limits .counters
@@ -57,10 +76,25 @@ pub record KeyWritten (r : Registers) (before after : List ℕ) : Type 0 where
   pub others : (j : ℕ) → keyBytes ≤ j → getD after j 0 ≡ getD before j 0
   pub same : length after ≡ length before
 
--- Whether two rows of bytes keep the same registers: it is answered by their bytes
+-- One of the words that keep registers; its bytes are bytes
+pub record KeyWord (r : Registers) (i word : ℕ) : Type 0 where
+  pub own : word ≡ wordOf (keyByte r) i
+  pub small : (k : ℕ) → k < wordBytes → keyByte r (wordBytes * i + k) < byteValues
+
+-- The words that keep registers
+pub record KeyOf (r : Registers) (key : List ℕ) : Type 0 where
+  pub whole : Whole r
+  pub all : wordBytes * length key ≡ keyBytes
+  pub words : (i : ℕ) → (i + 1) * wordBytes ≤ keyBytes → KeyWord r i (getD key i 0)
+
+-- Bytes whose words are those of a key
+abbrev pub KeyWords : List ℕ → List ℕ → Type 0
+KeyWords bytes key = (i : ℕ) → (i + 1) * wordBytes ≤ keyBytes → wordOf (byteAt bytes) i ≡ getD key i 0
+
+-- Whether a row of bytes has the words of a key; if so, it is told too that its elements are bytes
 abbrev pub SameKey : List ℕ → List ℕ → Bool → Type 0
-SameKey bytes key true = (j : ℕ) → j < keyBytes → getD bytes j 0 ≡ getD key j 0
-SameKey bytes key false = ((j : ℕ) → j < keyBytes → getD bytes j 0 ≡ getD key j 0) → ⊥
+SameKey bytes key true = AllBytes bytes × KeyWords bytes key
+SameKey bytes key false = KeyWords bytes key → ⊥
 
 -- The first counters that bytes keep
 pub record CountersOf (bytes counters : List ℕ) (n : ℕ) : Type 0 where
@@ -72,19 +106,61 @@ pub record DelaysOf (bytes : List ℕ) (delays : List Bool) (n : ℕ) : Type 0 w
   pub all : length delays ≡ limits .delays
   pub own : (i : ℕ) → i < n → getD delays i false ≡ hasFlag (i % 8) (getD bytes (counterBytes + i / 8) 0)
 
+-- The greatest number of three bytes
+abbrev pub mostLink : ℕ
+mostLink = 16777215
+
+-- A number of three bytes: a link of a record
+abbrev pub linkAt : ℕ → List ℕ → ℕ
+linkAt at bytes = getD bytes at 0 + getD bytes (at + 1) 0 * 256 + getD bytes (at + 2) 0 * 65536
+
+-- Where the link to the record that it came from stands
+abbrev pub linkPlace : ℕ
+linkPlace = keyBytes
+
+-- Where the frame byte stands
+abbrev pub framePlace : ℕ
+framePlace = linkPlace + 3
+
+-- Where the link to the record before it in its bucket stands
+abbrev pub chainPlace : ℕ
+chainPlace = framePlace + 1
+
+-- Where the link to the last record of the bucket that has its number stands
+abbrev pub headPlace : ℕ
+headPlace = chainPlace + 3
+
 -- The link of a record: the number of the record that it came from and one more, or 0
 abbrev pub linkIn : List ℕ → ℕ
-linkIn bytes = getD bytes keyBytes 0 + getD bytes (keyBytes + 1) 0 * 256 + getD bytes (keyBytes + 2) 0 * 65536
+linkIn = linkAt linkPlace
+
+-- Bytes of which three are a link now, and the others are as before
+pub record LinkWritten (at link : ℕ) (before after : List ℕ) : Type 0 where
+  pub own : linkAt at after ≡ link
+  pub below : (j : ℕ) → j < at → getD after j 0 ≡ getD before j 0
+  pub behind : (j : ℕ) → at + 3 ≤ j → getD after j 0 ≡ getD before j 0
+  pub same : length after ≡ length before
 
 -- The frame byte of a record
 abbrev pub frameIn : List ℕ → ℕ
-frameIn bytes = getD bytes (keyBytes + 3) 0
+frameIn bytes = getD bytes framePlace 0
 
 -- What a record has
 pub record Has (bytes : List ℕ) (r : Registers) (link frame : ℕ) : Type 0 where
   pub keeps : Keeps bytes r
   pub own-link : linkIn bytes ≡ link
   pub own-frame : frameIn bytes ≡ frame
+
+-- A record that is written: what it has, the record before it in its bucket, and the bytes behind as before
+pub record Written (r : Registers) (link frame chain : ℕ) (before after : List ℕ) : Type 0 where
+  pub has : Has after r link frame
+  pub own-chain : linkAt chainPlace after ≡ chain
+  pub behind : (j : ℕ) → headPlace ≤ j → getD after j 0 ≡ getD before j 0
+  pub same : length after ≡ length before
+
+-- Two records with the same bytes in front of their part of the index: they have the same registers, link and frame byte
+abbrev pub SameState : List ℕ → List ℕ → Type 0
+SameState before after = (j : ℕ) → j < chainPlace → getD after j 0 ≡ getD before j 0
 
 -- A record of a table, by its number
 abbrev pub recordAt : List ℕ → ℕ → List ℕ

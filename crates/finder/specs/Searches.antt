@@ -10,7 +10,9 @@ use Rattle.reading.specs.declared.refusal.Refusal.{Refusal}
 use Rattle.rules.specs.Formula.{Formula, horizon}
 use Rattle.rules.specs.Loading.{Items, accepted, readRule}
 use Rattle.rules.specs.Meaning.{Holds}
+use Rattle.rules.specs.declared.load.Rule.{Rule}
 use Rattle.sequencer.specs.Programs.{Sound, codeIn}
+use Rattle.emitter.specs.Emitting.{Loads}
 use Rattle.emitter.specs.Translation.{codeFor}
 use Rattle.paths.specs.Answers.{First}
 use Rattle.finder.specs.Exploring.{Hits}
@@ -50,11 +52,12 @@ pub record CanSearch (numbers : List ℕ) (n : ℕ) (witness : List ℕ) : Type 
   pub sound : Sound numbers n
   pub room : (c : Clip) → First (Hits (codeIn numbers n)) c → length c ≤ length witness
 
--- An accepted rule, and a witness buffer that is long enough
-pub record Searchable (rule witness : List ℕ) : Type 0 where
+-- The bytes of an accepted rule, the rule that is loaded from them, and a witness buffer that is long enough
+pub record Searchable (bytes : List ℕ) (rule : Rule) (witness : List ℕ) : Type 0 where
+  pub loads : Loads bytes rule
   pub is : Items
   pub formula : Formula
-  pub reads : readRule rule ≡ accepted is formula
+  pub reads : readRule bytes ≡ accepted is formula
   pub long : horizon formula + 1 ≤ length witness
 
 -- What is answered for an accepted rule

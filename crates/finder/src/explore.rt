@@ -1,8 +1,11 @@
-// Breadth first from the fresh state: each stored state with each frame byte in front, until one satisfies, no state is new, or there is no room.
+// Breadth first from the fresh state: each stored state with each frame byte in front, until one satisfies, no state is new, or there is no room. A
+// byte with a flag that the code does not name is passed over: it leads where a smaller one led.
 ghost use mathlib.Core.Path.{_≡_};
 ghost use lib.ListN.{length};
 ghost use Rattle.sequencer.specs.Programs.{codeIn};
 ghost use Rattle.finder.specs.Exploring.{CanKeep, Keeping, Tries, TriedTo, Ready, Ends};
+use crate::flags::named_flags;
+use crate::flags::passed_over;
 use crate::record::registers_of;
 use crate::table::Look;
 use crate::table::find;
@@ -49,7 +52,7 @@ fn keep(
     requires { ⌜ CanKeep room (now table) from frame kept registers ⌝ }
     ensures { λ r. ⌜ Keeping room (now (table .entry)) (now (table .exit)) from frame kept registers r ⌝ }
 {
-    match find(&table[..], kept.stored, registers) {
+    match find(&table[..], room, registers) {
         Look::At(_) => kept,
         Look::Nowhere => {
             if room <= kept.stored {
@@ -58,7 +61,7 @@ fn keep(
                     full: true,
                 };
             }
-            store(&mut *table, kept.stored, registers, from + 1, frame);
+            store(&mut *table, room, kept.stored, registers, from + 1, frame);
             Kept {
                 stored: kept.stored + 1,
                 full: kept.full,
@@ -67,17 +70,18 @@ fn keep(
     }
 }
 
-// Tries the states of the present length, in order, each with every frame byte in front, up to the first trial that satisfies.
+// Tries the states of the present length, in order, each with every frame byte in front that matters, up to the first trial that satisfies.
 fn try_length(
     numbers: &[u16],
     count: usize,
+    passed: &[bool],
     table: &mut [u8],
     room: usize,
     first: usize,
     ended: usize,
     kept: Kept,
 ) -> Trials
-    requires { ⌜ Tries (now numbers) count room (now table) first ended kept ⌝ }
+    requires { ⌜ Tries (now numbers) count (now passed) room (now table) first ended kept ⌝ }
     ensures { λ r. ⌜ (length (now (table .exit)) ≡ length (now (table .entry))) × TriedTo (codeIn (now (numbers .entry)) count) room (now (table .exit)) ended (r .state) (r .frame) (r .kept) (r .hit) ⌝ }
 {
     let mut kept = kept;
@@ -87,6 +91,9 @@ fn try_length(
     'all: while state < ended {
         let registers = registers_of(record_at(&table[..], state));
         for frame in 0..=255u8 {
+            if passed[frame as usize] {
+                continue;
+            }
             let trial = registers.advance(numbers, count, frame);
             if trial.bit {
                 hit = true;
@@ -113,7 +120,9 @@ pub(crate) fn explore(numbers: &[u16], count: usize, table: &mut [u8], room: usi
     if room == 0 {
         return End::NoRoom;
     }
-    store(&mut *table, 0, Registers::fresh(), 0, 0);
+    store(&mut *table, room, 0, Registers::fresh(), 0, 0);
+    let named = named_flags(numbers, count);
+    let passed = passed_over(&named);
     let mut kept = Kept {
         stored: 1,
         full: false,
@@ -121,7 +130,16 @@ pub(crate) fn explore(numbers: &[u16], count: usize, table: &mut [u8], room: usi
     let mut first = 0;
     let mut ended = 1;
     loop {
-        let trials = try_length(numbers, count, &mut *table, room, first, ended, kept);
+        let trials = try_length(
+            numbers,
+            count,
+            &passed,
+            &mut *table,
+            room,
+            first,
+            ended,
+            kept,
+        );
         if trials.hit {
             return End::Met {
                 state: trials.state,

@@ -1,11 +1,11 @@
 // A record of the table: the registers of a state (64 bytes: two for each counter, lowest first, and a bit for each delay bit), the link to the
-// record that it came from (three bytes: its number and one more, or 0), and the frame byte that led here. The bytes behind them are for an
-// index: a chain's link and a bucket's head.
+// record that it came from (three bytes: its number and one more, or 0), and the frame byte that led here. Behind them stands a part of the index,
+// in the form of the link: the record before this one in its bucket, and the last record of the bucket that has this record's number.
 ghost use mathlib.Core.Path.{_≡_};
-ghost use Prim.Native.Nat.{_+_, _≤_, _<_};
+ghost use Prim.Native.Nat.{_+_, _*_, _≤_, _<_};
 ghost use lib.ListN.{length, drop};
 ghost use Rattle.reading.specs.Limits.{limits};
-ghost use Rattle.finder.specs.Records.{keyBytes, nibbleOf, bitsValue, halfOf, keyByte, Whole, KeptBy, SameKey, KeyWritten, CountersOf, DelaysOf, linkIn, frameIn, Has};
+ghost use Rattle.finder.specs.Records.{wordBytes, keyBytes, nibbleOf, bitsValue, halfOf, keyByte, byteAt, wordOf, mostLink, Whole, KeptBy, KeyWord, KeyOf, SameKey, KeyWritten, CountersOf, DelaysOf, linkAt, LinkWritten, frameIn, Written};
 use reading::limits::COUNTERS;
 use reading::limits::DELAYS;
 use reading::number::wide;
@@ -15,12 +15,21 @@ use sequencer::run::byte_of;
 // The bytes of the counters, and of all registers.
 const COUNTER_BYTES: usize = 2 * COUNTERS;
 
-pub(crate) const KEY: usize = COUNTER_BYTES + DELAYS / 8;
+const KEY: usize = COUNTER_BYTES + DELAYS / 8;
 
-// Where the link and the frame byte stand.
-const LINK: usize = KEY;
+// The bytes of a word, and the words of all registers.
+const WORD: usize = 8;
+
+pub(crate) const WORDS: usize = KEY / WORD;
+
+// Where the link, the frame byte, and the two numbers of the index stand.
+pub(crate) const LINK: usize = KEY;
 
 const FRAME: usize = LINK + 3;
+
+pub(crate) const CHAIN: usize = FRAME + 1;
+
+pub(crate) const HEAD: usize = CHAIN + 3;
 
 // Four bits as a number, the first lowest.
 fn nibble_of(a: bool, b: bool, c: bool, d: bool) -> u8
@@ -61,7 +70,7 @@ fn key_byte(counters: &[u16], delays: &[bool], j: usize) -> u8
 }
 
 // Writes the bytes that keep registers.
-pub(crate) fn write_key(registers: Registers, bytes: &mut [u8])
+fn write_key(registers: Registers, bytes: &mut [u8])
     requires { ⌜ keyBytes ≤ length (now bytes) ⌝ }
     ensures { λ r. ⌜ KeyWritten registers (now (bytes .entry)) (now (bytes .exit)) ⌝ }
 {
@@ -74,17 +83,76 @@ pub(crate) fn write_key(registers: Registers, bytes: &mut [u8])
     }
 }
 
-// Whether a record keeps the registers whose bytes are given.
-pub(crate) fn same_key(bytes: &[u8], key: &[u8]) -> bool
-    requires { ⌜ (keyBytes ≤ length (now bytes)) × (keyBytes ≤ length (now key)) ⌝ }
+// Eight bytes as a word, the first lowest.
+fn eight(a: u8, b: u8, c: u8, d: u8, e: u8, f: u8, g: u8, h: u8) -> u64
+    ensures { λ r. ⌜ r ≡ a + 256 * (b + 256 * (c + 256 * (d + 256 * (e + 256 * (f + 256 * (g + 256 * h)))))) ⌝ }
+{
+    let high = e as u64 + 256 * (f as u64 + 256 * (g as u64 + 256 * h as u64));
+    a as u64 + 256 * (b as u64 + 256 * (c as u64 + 256 * (d as u64 + 256 * high)))
+}
+
+// One of the words that keep registers.
+fn key_word(counters: &[u16], delays: &[bool], i: usize) -> u64
+    requires { ⌜ Whole (record { counters = now counters; delays = now delays }) × ((i + 1) * wordBytes ≤ keyBytes) ⌝ }
+    ensures { λ r. ⌜ KeyWord (record { counters = now (counters .entry); delays = now (delays .entry) }) i r ⌝ }
+{
+    let at = WORD * i;
+    eight(
+        key_byte(counters, delays, at),
+        key_byte(counters, delays, at + 1),
+        key_byte(counters, delays, at + 2),
+        key_byte(counters, delays, at + 3),
+        key_byte(counters, delays, at + 4),
+        key_byte(counters, delays, at + 5),
+        key_byte(counters, delays, at + 6),
+        key_byte(counters, delays, at + 7),
+    )
+}
+
+// The words that keep registers.
+pub(crate) fn key_of(registers: Registers) -> [u64; WORDS]
+    ensures { λ r. ⌜ KeyOf registers r ⌝ }
+{
+    let counters = registers.counters;
+    let delays = registers.delays;
+    let mut key = [0u64; WORDS];
+    let mut i = 0;
+    while i < WORDS {
+        key[i] = key_word(&counters, &delays, i);
+        i += 1;
+    }
+    key
+}
+
+// One of a record's words.
+fn word_of(bytes: &[u8], i: usize) -> u64
+    requires { ⌜ (i + 1) * wordBytes ≤ length (now bytes) ⌝ }
+    ensures { λ r. ⌜ r ≡ wordOf (byteAt (now (bytes .entry))) i ⌝ }
+{
+    let at = WORD * i;
+    eight(
+        bytes[at],
+        bytes[at + 1],
+        bytes[at + 2],
+        bytes[at + 3],
+        bytes[at + 4],
+        bytes[at + 5],
+        bytes[at + 6],
+        bytes[at + 7],
+    )
+}
+
+// Whether a record keeps the registers whose words are given.
+pub(crate) fn same_key(bytes: &[u8], key: &[u64]) -> bool
+    requires { ⌜ (keyBytes ≤ length (now bytes)) × (keyBytes ≤ wordBytes * length (now key)) ⌝ }
     ensures { λ r. ⌜ SameKey (now (bytes .entry)) (now (key .entry)) r ⌝ }
 {
-    let mut at = 0;
-    while at < KEY {
-        if bytes[at] != key[at] {
+    let mut word = 0;
+    while word < WORDS {
+        if word_of(bytes, word) != key[word] {
             return false;
         }
-        at += 1;
+        word += 1;
     }
     true
 }
@@ -128,14 +196,14 @@ pub(crate) fn registers_of(bytes: &[u8]) -> Registers
     }
 }
 
-// The link of a record.
-pub(crate) fn link_of(bytes: &[u8]) -> usize
-    requires { ⌜ length (now bytes) ≡ limits .record_bytes ⌝ }
-    ensures { λ r. ⌜ r ≡ linkIn (now (bytes .entry)) ⌝ }
+// A number of three bytes: a link of a record.
+pub(crate) fn link_at(bytes: &[u8], at: usize) -> usize
+    requires { ⌜ at + 3 ≤ length (now bytes) ⌝ }
+    ensures { λ r. ⌜ (r ≡ linkAt at (now (bytes .entry))) × (r ≤ mostLink) ⌝ }
 {
-    wide(bytes[LINK]) as usize
-        + wide(bytes[LINK + 1]) as usize * 256
-        + wide(bytes[LINK + 2]) as usize * 65_536
+    wide(bytes[at]) as usize
+        + wide(bytes[at + 1]) as usize * 256
+        + wide(bytes[at + 2]) as usize * 65_536
 }
 
 // The frame byte of a record.
@@ -146,14 +214,29 @@ pub(crate) fn frame_of(bytes: &[u8]) -> u8
     bytes[FRAME]
 }
 
-// Writes a record: registers, link and frame byte.
-pub(crate) fn write_record(bytes: &mut [u8], registers: Registers, link: usize, frame: u8)
-    requires { ⌜ (length (now bytes) ≡ limits .record_bytes) × (link ≤ limits .records) ⌝ }
-    ensures { λ r. ⌜ Has (now (bytes .exit)) registers link frame × (length (now (bytes .exit)) ≡ length (now (bytes .entry))) ⌝ }
+// Writes a number of three bytes: a link of a record.
+pub(crate) fn write_link(bytes: &mut [u8], at: usize, link: usize)
+    requires { ⌜ (at + 3 ≤ length (now bytes)) × (link ≤ mostLink) ⌝ }
+    ensures { λ r. ⌜ LinkWritten at link (now (bytes .entry)) (now (bytes .exit)) ⌝ }
+{
+    bytes[at] = (link % 256) as u8;
+    bytes[at + 1] = (link / 256 % 256) as u8;
+    bytes[at + 2] = (link / 65_536) as u8;
+}
+
+// Writes a record: registers, link, frame byte, and the record before it in its bucket.
+pub(crate) fn write_record(
+    bytes: &mut [u8],
+    registers: Registers,
+    link: usize,
+    frame: u8,
+    chain: usize,
+)
+    requires { ⌜ (length (now bytes) ≡ limits .record_bytes) × (link ≤ mostLink) × (chain ≤ mostLink) ⌝ }
+    ensures { λ r. ⌜ Written registers link frame chain (now (bytes .entry)) (now (bytes .exit)) ⌝ }
 {
     write_key(registers, &mut *bytes);
-    bytes[LINK] = (link % 256) as u8;
-    bytes[LINK + 1] = (link / 256 % 256) as u8;
-    bytes[LINK + 2] = (link / 65_536) as u8;
+    write_link(&mut *bytes, LINK, link);
     bytes[FRAME] = frame;
+    write_link(bytes, CHAIN, chain);
 }

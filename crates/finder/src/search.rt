@@ -1,4 +1,6 @@
 // The search: a rule's bytes, a table and a witness buffer in, an answer out.
+ghost use mathlib.Core.List.{List};
+ghost use Prim.Native.Nat.{ℕ};
 ghost use Rattle.rules.specs.Loading.{readRule};
 ghost use Rattle.sequencer.specs.Programs.{codeIn};
 ghost use Rattle.finder.specs.Exploring.{Hits};
@@ -6,17 +8,19 @@ ghost use Rattle.finder.specs.Finding.{Answers, SearchSays};
 ghost use Rattle.finder.specs.Searches.{CanShow, Showing, CanTell, Tells, CanSearch, Searchable, RuleAnswers};
 use crate::explore::End;
 use crate::explore::explore;
+use crate::record::LINK;
 use crate::record::frame_of;
-use crate::record::link_of;
+use crate::record::link_at;
 use crate::table::clear;
 use crate::table::record_at;
 use crate::table::room_of;
 use emitter::emit::Emitted;
 use emitter::emit::MOST_CODE;
-use emitter::emit::emit;
+use emitter::emit::emit_rule;
 use reading::refusal::Refusal;
 use rules::load::Loaded;
-use rules::load::load;
+use rules::load::Rule;
+use rules::load::decode;
 
 // What the search answers: a clip's length and the number of states, that there is none and the number of states, or the refusal.
 pub enum Found {
@@ -33,12 +37,12 @@ fn write_witness(table: &[u8], state: usize, frame: u8, witness: &mut [u8]) -> u
     witness[0] = frame;
     let mut length = 1;
     let mut at = state;
-    let mut link = link_of(record_at(table, at));
+    let mut link = link_at(record_at(table, at), LINK);
     while link != 0 {
         witness[length] = frame_of(record_at(table, at));
         length += 1;
         at = link - 1;
-        link = link_of(record_at(table, at));
+        link = link_at(record_at(table, at), LINK);
     }
     length
 }
@@ -62,12 +66,13 @@ fn tell(end: End, table: &[u8], witness: &mut [u8]) -> Found
     }
 }
 
-// Searches by code that is loaded, and leaves the table all zero.
+// Searches by code that is loaded, in a table that is made all zero first, which is an empty index, and is all zero again at the end.
 fn search_code(numbers: &[u16], count: usize, table: &mut [u8], witness: &mut [u8]) -> Found
     requires { ⌜ CanSearch (now numbers) count (now witness) ⌝ }
     ensures { λ r. ⌜ Answers (codeIn (now (numbers .entry)) count) (Hits (codeIn (now (numbers .entry)) count)) (now (table .entry)) (now (witness .entry)) r (now (table .exit)) (now (witness .exit)) ⌝ }
 {
     let room = room_of(&table[..]);
+    clear(&mut *table);
     let end = explore(numbers, count, &mut *table, room);
     let found = tell(end, &table[..], witness);
     clear(table);
@@ -76,12 +81,12 @@ fn search_code(numbers: &[u16], count: usize, table: &mut [u8], witness: &mut [u
 
 // Searches by the emitted code of a rule that is accepted, with a witness buffer that is long enough. Neither refusal inside comes: the array holds
 // the code of every accepted rule, and that code loads.
-fn search_rule(rule: &[u8], table: &mut [u8], witness: &mut [u8]) -> Found
-    requires { ⌜ Searchable (now rule) (now witness) ⌝ }
-    ensures { λ r. ⌜ RuleAnswers (now (rule .entry)) (now (table .entry)) (now (witness .entry)) r (now (table .exit)) (now (witness .exit)) ⌝ }
+fn search_rule(rule: Rule, table: &mut [u8], witness: &mut [u8]) -> Found
+    requires { ⌜ ((bytes : List ℕ) × Searchable bytes rule (now witness)) ⌝ }
+    ensures { λ r. ⌜ ((bytes : List ℕ) → Searchable bytes rule (now (witness .entry)) → RuleAnswers bytes (now (table .entry)) (now (witness .entry)) r (now (table .exit)) (now (witness .exit))) ⌝ }
 {
     let mut code = [0; MOST_CODE];
-    match emit(rule, &mut code) {
+    match emit_rule(rule, &mut code) {
         Emitted::Length(length) => {
             let program = sequencer::load::decode(&code[..length]);
             let loaded = program.loaded;
@@ -102,12 +107,14 @@ fn search_rule(rule: &[u8], table: &mut [u8], witness: &mut [u8]) -> Found
 pub fn search(rule: &[u8], table: &mut [u8], witness: &mut [u8]) -> Found
     ensures { λ r. ⌜ SearchSays (readRule (now (rule .entry))) (now (table .entry)) (now (witness .entry)) r (now (table .exit)) (now (witness .exit)) ⌝ }
 {
-    match load(rule) {
+    let read = decode(rule);
+    let loaded = read.loaded;
+    match loaded {
         Loaded::Accepted { items: _, horizon } => {
             if witness.len() < horizon + 1 {
                 return Found::Refused(Refusal::ShortWitness);
             }
-            search_rule(rule, table, witness)
+            search_rule(read, table, witness)
         }
         Loaded::Refused(refusal) => Found::Refused(refusal),
     }

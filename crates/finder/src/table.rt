@@ -1,14 +1,18 @@
-// The table: records one behind the other, each known by its number.
+// The table: records one behind the other, each known by its number, and found by the index.
 ghost use mathlib.Core.Path.{_≡_};
-ghost use Prim.Native.Nat.{_+_, _*_, _≤_, _<_};
+ghost use Prim.Native.Nat.{ℕ, _+_, _*_, _≤_};
 ghost use lib.ListN.{length, replicate};
 ghost use Rattle.reading.specs.Limits.{limits};
 ghost use Rattle.finder.specs.Finding.{roomOf};
 ghost use Rattle.finder.specs.Records.{recordAt};
-ghost use Rattle.finder.specs.Tables.{Looks, Stores};
-use crate::record::KEY;
+ghost use Rattle.finder.specs.Tables.{Filled, Looks, CanStore, Stores};
+use crate::index::bucket_of;
+use crate::record::CHAIN;
+use crate::record::HEAD;
+use crate::record::key_of;
+use crate::record::link_at;
 use crate::record::same_key;
-use crate::record::write_key;
+use crate::record::write_link;
 use crate::record::write_record;
 use reading::limits::MOST_RECORDS;
 use reading::limits::RECORD;
@@ -40,30 +44,49 @@ pub(crate) fn record_at(table: &[u8], n: usize) -> &[u8]
     &table[base..base + RECORD]
 }
 
-// Looks registers up among the first records.
-pub(crate) fn find(table: &[u8], stored: usize, registers: Registers) -> Look
-    requires { ⌜ stored * limits .record_bytes ≤ length (now table) ⌝ }
-    ensures { λ r. ⌜ Looks (now (table .entry)) stored registers r ⌝ }
+// Looks registers up among the records that are in the index, down the chain of their bucket.
+pub(crate) fn find(table: &[u8], room: usize, registers: Registers) -> Look
+    requires { ⌜ ((stored : ℕ) × Filled room (now table) stored) ⌝ }
+    ensures { λ r. ⌜ ((stored : ℕ) → Filled room (now (table .entry)) stored → Looks (now (table .entry)) stored registers r) ⌝ }
 {
-    let mut key = [0; KEY];
-    write_key(registers, &mut key);
-    let mut n = 0;
-    while n < stored {
+    let key = key_of(registers);
+    let bucket = bucket_of(&key, room);
+    let mut at = link_at(record_at(table, bucket), HEAD);
+    while at != 0 {
+        let n = at - 1;
         if same_key(record_at(table, n), &key) {
             return Look::At(n);
         }
-        n += 1;
+        at = link_at(record_at(table, n), CHAIN);
     }
     Look::Nowhere
 }
 
-// Stores a state as the record of a number.
-pub(crate) fn store(table: &mut [u8], n: usize, registers: Registers, link: usize, frame: u8)
-    requires { ⌜ ((n + 1) * limits .record_bytes ≤ length (now table)) × (link ≤ limits .records) ⌝ }
-    ensures { λ r. ⌜ Stores (now (table .entry)) (now (table .exit)) n registers link frame ⌝ }
+// Stores a state as the record of a number, and puts it in front of the chain of its bucket.
+pub(crate) fn store(
+    table: &mut [u8],
+    room: usize,
+    n: usize,
+    registers: Registers,
+    link: usize,
+    frame: u8,
+)
+    requires { ⌜ CanStore room (now table) n link ⌝ }
+    ensures { λ r. ⌜ Stores room (now (table .entry)) (now (table .exit)) n registers link frame ⌝ }
 {
+    let key = key_of(registers);
+    let bucket = bucket_of(&key, room);
+    let head = link_at(record_at(&table[..], bucket), HEAD);
     let base = n * RECORD;
-    write_record(&mut table[base..base + RECORD], registers, link, frame);
+    write_record(
+        &mut table[base..base + RECORD],
+        registers,
+        link,
+        frame,
+        head,
+    );
+    let first = bucket * RECORD;
+    write_link(&mut table[first..first + RECORD], HEAD, n + 1);
 }
 
 // Makes every byte 0.

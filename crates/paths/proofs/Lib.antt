@@ -5,4 +5,5 @@ pub mod Unique
 pub mod Clips
 pub mod Turns
 pub mod Ends
+pub mod Chains
 pub mod Model

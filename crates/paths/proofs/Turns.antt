@@ -142,6 +142,15 @@ module _ {S : Type 0} (state : Clip → S) (Meets : Clip → Type 0) (room : ℕ
             record { clip = b ∷ clipAt clips k; bytes = trial-bytes s more byte; long = trial-length s more; new = new } in
             same-clips true (λ e. refl) (inr refl) (λ e. (omega arith, spare))
 
+    -- The trial leads where one with a smaller byte led, and satisfies no more than that
+    pub passed-turn : k < ended → b < frameBytes → (x : ℕ) → x < b → state (x ∷ clipAt clips k) ≡ state (b ∷ clipAt clips k) → (Meets (b ∷ clipAt clips k) → Meets (x ∷ clipAt clips k))
+        → Searching state Meets room clips frames k (b + 1) ended full
+    passed-turn more byte x less same meets =
+        let before : Tried k b k x = (omega arith, inr (refl, less)) in
+        same-clips more byte (λ m. s .quiet k x before (meets m)) full (λ e. e)
+        (⊎-map (λ r. record { number = r .number; inside = r .inside; same = r .same ∙ same; early = inr (s .behind more (r .number) (r .inside)) }) (λ e. e .0) (s .kept k x before))
+        (s .spare)
+
     -- All bytes are tried with a state
     pub next-state : k < ended → b ≡ frameBytes → Searching state Meets room clips frames (k + 1) 0 ended full
     unfolding Less

@@ -2,4 +2,5 @@
 pub mod Order
 pub mod Answers
 pub mod Searching
+pub mod Chains
 pub mod Model

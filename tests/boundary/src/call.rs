@@ -39,8 +39,8 @@ pub enum Before {
     Bytes(Vec<u8>),
     /// So many bytes of a pattern.
     Pattern(usize),
-    /// So many zeros.
-    Zeros(usize),
+    /// This byte, so many times.
+    Full(u8, usize),
 }
 
 /// A function and its buffers.
@@ -67,12 +67,13 @@ pub fn of_rule(rule: Vec<u8>) -> Call {
     }
 }
 
-/// The call of a search. Where the buffers of the case are full of zeros, so are
-/// those of the call, as zeros in a table are more like records than a pattern is.
+/// The call of a search. Where the buffers of the case are full of 00 or of ff, so
+/// are those of the call: in a table, zeros are more like records than a pattern is,
+/// and ff are the largest numbers of records. Any other byte stands for a pattern.
 pub fn of_search(case: SearchCase) -> Call {
-    let before = match case.fill {
-        0 => Before::Zeros,
-        _ => Before::Pattern,
+    let before = |length| match case.fill {
+        0x00 | 0xff => Before::Full(case.fill, length),
+        _ => Before::Pattern(length),
     };
     Call {
         entry: Entry::Search,
@@ -155,7 +156,7 @@ impl Call {
             match before {
                 Before::Bytes(bytes) => lay(bytes, turn),
                 Before::Pattern(length) => lay(&patterned(turn + 1, *length), turn),
-                Before::Zeros(length) => lay(&vec![0; *length], turn),
+                Before::Full(byte, length) => lay(&vec![*byte; *length], turn),
             }
         };
         self.buffers.iter().enumerate().map(lend).collect()

@@ -11,7 +11,7 @@ use second::maker_case::MakerCase;
 use second::maker_cases::maker_cases;
 use second::random::Random;
 use second::search_case::SearchCase;
-use second::search_cases::{edge_cases, random_cases};
+use second::search_cases::{edge_cases, large_cases, random_cases};
 use second::sequencer_cases::{load_cases, run_cases};
 use std::iter;
 
@@ -30,10 +30,14 @@ const LISTS: [List; 8] = [
     ("search", 3_500, |seed| of_searches(edge_cases(seed))),
 ];
 
-/// The list that takes long to make. It is left out where only a share is taken.
-const RANDOM: List = ("random search", 8_000, |seed| {
-    of_searches(random_cases(seed))
-});
+/// The lists that take long, to answer or to make. They are left out where only a
+/// share is taken: under valgrind one large search takes longer than all the others.
+const LONG: [List; 2] = [
+    ("large search", 60, |_| of_searches(large_cases())),
+    ("random search", 8_000, |seed| {
+        of_searches(random_cases(seed))
+    }),
+];
 
 /// All lists of a seed together have so many calls at least.
 const LEAST: usize = 100_000;
@@ -72,8 +76,8 @@ pub fn compare(seed: u64, share: usize) -> bool {
     let mut total = 0;
     let mut differences = 0;
     let mut enough = true;
-    let random = (share == 1).then_some(RANDOM);
-    for (kind, least, list) in LISTS.into_iter().chain(random) {
+    let long = (share == 1).then_some(LONG).into_iter().flatten();
+    for (kind, least, list) in LISTS.into_iter().chain(long) {
         let calls = list(seed);
         let taken = taken(seed, share, calls.len());
         println!("{kind}: {} cases", taken.len());
@@ -136,7 +140,7 @@ fn words_of_call(call: &Call) -> String {
     let words_of_buffer = |before: &Before| match before {
         Before::Bytes(bytes) => words_of_bytes(bytes).chars().take(CHARACTERS).collect(),
         Before::Pattern(length) => format!("{length} bytes"),
-        Before::Zeros(length) => format!("{length} zeros"),
+        Before::Full(byte, length) => format!("{length} bytes {byte:02x}"),
     };
     let buffers: Vec<String> = call.buffers.iter().map(words_of_buffer).collect();
     format!("{:?} {}", call.entry, buffers.join(" | "))

@@ -63,9 +63,8 @@ pub struct Explored {
     /// How many states the shorter clips reach; without a clip, all clips, or
     /// those of the lengths that were finished when there were too many.
     pub states: usize,
-    /// The sum over all trials of the states found by then, as far as there is
-    /// room for them: so many records a look-up that walks all of them compares.
-    pub compared: u64,
+    /// How many trials there are, each of a byte on a state: what a search costs.
+    pub trials: u64,
 }
 
 /// A state, and the first clip that reaches it: a frame before the first clip of
@@ -85,19 +84,19 @@ pub fn explore(code: &[Instruction], bytes: &[u8], most: usize) -> Explored {
         registers: fresh,
         first: None,
     }];
-    let mut compared = 0;
+    let mut trials = 0;
     // The states whose first clips have one length, and are tried next.
     let mut length = 0..1;
     while !length.is_empty() && length.end <= most {
         for number in length.clone() {
             for &byte in bytes {
                 let mut registers = states[number].registers.clone();
-                compared += states.len().min(most) as u64;
+                trials += 1;
                 if registers.take(code, byte) {
                     return Explored {
                         clip: Some(clip_before(&states, byte, number)),
                         states: length.end,
-                        compared,
+                        trials,
                     };
                 }
                 if !known.contains(&registers) {
@@ -112,7 +111,7 @@ pub fn explore(code: &[Instruction], bytes: &[u8], most: usize) -> Explored {
     Explored {
         clip: None,
         states: length.end,
-        compared,
+        trials,
     }
 }
 
@@ -334,6 +333,25 @@ mod tests {
         assert_eq!(explored(MOST_RECORDS).states, MOST_RECORDS);
         assert_eq!(explored(MOST_RECORDS - 1).states, MOST_RECORDS);
         assert_eq!(explored(MOST_RECORDS / 2 - 1).states, MOST_RECORDS / 2);
+    }
+
+    #[test]
+    fn trials_are_counted_up_to_the_first_hit() {
+        let trials = |text: &str, bytes: &[u8], most| {
+            let explored = explore(&emit(&formula_of(text)), bytes, most);
+            explored.trials
+        };
+        // Flag 0, by the bytes 0 and 1, or 0 to 255.
+        let all: Vec<u8> = (0..=255).collect();
+        assert_eq!(trials("12 00", &[0, 1], 1), 2);
+        assert_eq!(trials("12 00", &all, 1), 2);
+        assert_eq!(trials("11", &all, 1), 256);
+        assert_eq!(trials("11", &all, 0), 0);
+        // All values of ten delay bits; with a record less, those of nine frames or fewer.
+        let rule = "12 00 32 0a 0a 11 21";
+        assert_eq!(trials(rule, &all, 1_024), 1_024 * 256);
+        assert_eq!(trials(rule, &[0, 1], 1_024), 1_024 * 2);
+        assert_eq!(trials(rule, &all, 1_023), 512 * 256);
     }
 
     #[test]

@@ -1,9 +1,9 @@
 //! The list of cases for the search that both programs answer, the same for the
 //! same seed.
 //!
-//! A search that looks a state up by walking all records compares as many as are
-//! stored, for each of 256 bytes on each state. So most rules here have few
-//! states, or their tables little room.
+//! What a search costs goes by its trials: each of 256 bytes on each state. So most
+//! rules here have few states, or their tables little room, and some have many: a
+//! state is found by an index, which shows nothing while the records are few.
 
 use crate::cases::samples;
 use crate::emit::emit;
@@ -45,6 +45,145 @@ const COUNTED: [&str; 21] = [
 /// The rule of 1,024 states that no clip meets.
 const THOUSAND: &str = "12 00 32 0a 0a 11 21";
 
+/// Rules of many states, and how many. Each two are a rule that no clip meets and
+/// one that is met; most of their states come from the counters, from the delays,
+/// or from both.
+const LARGE: [(usize, &str); 27] = [
+    // About 1,000 states. One flag: mostly counters, mostly delays, both.
+    (
+        1_000,
+        "12 00 33 00 0c 32 00 13 12 00 20 33 00 02 32 00 0b 21 11 21",
+    ),
+    (
+        1_079,
+        "12 00 33 00 02 32 00 06 12 00 20 33 00 09 32 00 11 21 12 00 32 00 04 33 00 10 21 12 00 \
+         20 33 00 03 21",
+    ),
+    (
+        1_009,
+        "12 00 32 0a 0b 12 00 20 12 00 20 32 01 02 22 33 00 03 12 00 20 33 0a 0c 21 21",
+    ),
+    (
+        1_035,
+        "12 00 32 0a 0a 12 00 33 00 09 12 00 20 32 00 0c 21 21",
+    ),
+    (
+        1_059,
+        "12 00 33 00 03 32 07 0d 12 00 20 32 06 10 33 00 0a 21 11 21",
+    ),
+    (
+        943,
+        "12 00 33 00 02 32 08 0f 12 00 20 32 00 06 33 08 10 21 12 00 20 33 00 0b 21 12 00 32 00 \
+         0c 21",
+    ),
+    // Four flags.
+    (
+        1_075,
+        "12 00 20 12 01 32 00 04 22 33 00 04 12 02 12 03 30 00 03 12 00 12 02 21 32 00 04 12 02 \
+         20 33 00 04 21 21 21",
+    ),
+    (
+        917,
+        "12 00 20 12 01 32 00 05 22 33 00 05 12 02 12 03 30 00 05 12 00 20 33 00 06 12 00 32 00 \
+         07 21 21 21",
+    ),
+    (
+        1_024,
+        "12 00 12 01 21 32 02 03 12 02 12 03 22 33 07 07 21 12 01 32 01 01 21 12 01 20 33 01 01 \
+         21",
+    ),
+    (
+        1_016,
+        "12 00 12 01 21 32 06 06 12 02 12 03 22 33 03 03 21 12 00 20 33 00 05 21",
+    ),
+    (
+        1_078,
+        "12 00 20 12 01 32 02 03 22 33 00 03 12 02 12 03 30 03 08 21 12 00 32 00 04 21 12 00 20 \
+         33 00 04 21",
+    ),
+    (
+        960,
+        "12 00 20 12 01 32 05 05 22 33 00 02 12 02 12 03 30 01 04 21 12 00 20 33 00 04 21 12 00 \
+         32 00 05 21",
+    ),
+    // All eight.
+    (
+        1_020,
+        "12 00 20 12 01 32 00 01 22 33 00 02 12 02 12 03 30 00 02 12 04 12 05 31 00 01 12 06 12 \
+         00 21 32 00 02 12 06 12 07 22 20 33 00 02 21 21 21 21",
+    ),
+    (
+        1_080,
+        "12 00 20 12 01 32 00 01 22 33 00 02 12 02 12 03 30 00 02 12 04 12 05 31 00 01 12 06 20 \
+         33 00 02 12 06 12 07 21 32 00 03 21 21 21 21",
+    ),
+    (
+        1_024,
+        "12 00 12 01 21 32 01 01 12 02 12 03 22 33 02 02 12 04 12 05 30 02 02 12 06 32 04 04 12 \
+         06 12 07 22 20 33 00 04 21 21 21 21",
+    ),
+    (
+        980,
+        "12 00 12 01 21 32 03 05 12 02 12 03 22 33 02 02 12 04 12 05 30 02 03 12 06 32 02 02 12 \
+         06 12 07 22 20 33 00 01 21 21 21 21",
+    ),
+    (
+        1_056,
+        "12 00 20 12 01 32 00 03 22 33 00 02 12 02 12 03 30 02 02 21 12 04 12 05 31 00 01 21 12 \
+         06 32 02 02 21 12 06 12 07 22 20 33 00 02 21",
+    ),
+    (
+        1_080,
+        "12 00 20 12 01 32 00 01 22 33 00 02 12 02 12 03 30 01 01 21 12 04 12 05 31 00 02 21 12 \
+         06 32 03 03 21 12 06 12 07 22 20 33 00 02 21",
+    ),
+    // About 3,000 states: counters of four flags and of eight, delays of one flag and of
+    // four, both of eight and of one.
+    (
+        3_358,
+        "12 00 20 12 01 32 00 09 22 33 00 05 12 02 12 03 30 00 03 21 12 00 12 02 21 32 00 07 21 \
+         12 02 20 33 00 07 21",
+    ),
+    (
+        2_835,
+        "12 00 20 12 01 32 00 01 22 33 00 02 12 02 12 03 30 00 03 21 12 04 12 05 31 00 01 21 12 \
+         06 20 33 00 04 21 12 06 12 07 21 32 00 05 21",
+    ),
+    (
+        3_075,
+        "12 00 32 0c 0d 12 00 20 12 00 20 32 01 02 22 33 00 03 21 12 00 20 33 0c 0e 21",
+    ),
+    (
+        3_066,
+        "12 00 12 01 21 32 08 08 12 02 12 03 22 33 02 04 21 12 00 20 33 00 07 21",
+    ),
+    (
+        3_072,
+        "12 00 20 12 01 32 00 03 22 33 00 01 12 02 12 03 30 01 02 21 12 04 12 05 31 00 02 21 12 \
+         06 32 04 04 21 12 06 12 07 22 20 33 00 04 21",
+    ),
+    (
+        3_210,
+        "12 00 33 00 05 32 09 19 12 00 20 32 00 01 33 08 18 21 12 00 20 33 00 0f 21 12 00 32 00 \
+         10 21",
+    ),
+    // About 8,000 states: counters of eight flags, delays of one, both of four.
+    (
+        7_975,
+        "12 00 20 12 01 32 00 03 22 33 00 03 12 02 12 03 30 00 03 12 04 12 05 31 00 03 12 06 12 \
+         00 21 32 00 04 12 06 12 07 22 20 33 00 05 21 21 21 21",
+    ),
+    (
+        8_206,
+        "12 00 32 0d 0d 12 00 33 00 0c 12 00 20 32 00 0f 21 21",
+    ),
+    (
+        8_000,
+        "12 00 20 12 01 32 06 06 22 33 00 03 12 02 12 03 30 01 04 21 12 00 32 00 0d 21 12 00 20 \
+         33 00 0d 21",
+    ),
+];
+
 /// Rules that are refused, at least one for each number, in its order.
 const REFUSED: [&str; 19] = [
     "",
@@ -71,16 +210,21 @@ const REFUSED: [&str; 19] = [
     "12 00 32 00 ff 01 10 20",
 ];
 
-/// How large random rules are: so many of a thousand have a search that compares
-/// at most so many records, and so many states are counted before there are too
-/// many.
-const SIZES: [(usize, u64, usize); 5] = [
-    (640, 10_000, 12),
-    (300, 40_000, 25),
-    (54, 200_000, 56),
-    (5, 2_000_000, 180),
-    (1, 12_000_000, 300),
+/// How large random rules are: so many of a thousand have a search of at most so
+/// many trials.
+const SIZES: [(usize, u64); 5] = [
+    (700, 12 * TRIALS),
+    (245, 25 * TRIALS),
+    (44, 100 * TRIALS),
+    (9, 400 * TRIALS),
+    (2, 4_000 * TRIALS),
 ];
+
+/// So many random rules.
+const RANDOM: usize = 10_000;
+
+/// The trials of one state: one for each byte.
+const TRIALS: u64 = 256;
 
 /// A text of hex bytes that is written in this file.
 fn bytes(text: &str) -> Vec<u8> {
@@ -88,11 +232,11 @@ fn bytes(text: &str) -> Vec<u8> {
 }
 
 /// What the clips of a formula come to. Only bytes of its own flags are tried, and
-/// what is compared is counted as if all were.
+/// the trials are counted as if all were.
 fn explored(f: &Formula, most: usize) -> Explored {
     let bytes = bytes_of_flags(f);
     let mut explored = explore(&emit(f), &bytes, most);
-    explored.compared *= 256 / bytes.len() as u64;
+    explored.trials *= TRIALS / bytes.len() as u64;
     explored
 }
 
@@ -123,6 +267,7 @@ fn frames(rule: &[u8]) -> usize {
 /// Rules to search a clip for, each with two buffers.
 pub fn search_cases(seed: u64) -> Vec<SearchCase> {
     let mut out = edge_cases(seed);
+    out.extend(large_cases());
     out.extend(random_cases(seed));
     out
 }
@@ -134,6 +279,7 @@ pub fn edge_cases(seed: u64) -> Vec<SearchCase> {
     sample_edges(&mut out);
     room_edges(&mut out);
     thousand_states(&mut out);
+    few_records(&mut out);
     long_tables(&mut out);
     witness_edges(&mut out);
     every_flag(&mut out);
@@ -144,10 +290,26 @@ pub fn edge_cases(seed: u64) -> Vec<SearchCase> {
     out
 }
 
-/// Random rules. What a search compares for each is counted here, which takes long.
+/// Rules of many states, with tables of just so many records, of a record less, and
+/// of a part of a record more.
+pub fn large_cases() -> Vec<SearchCase> {
+    let mut out = Vec::new();
+    for (k, (states, text)) in LARGE.into_iter().enumerate() {
+        let rule = bytes(text);
+        let enough = states * RECORD;
+        let more = enough + 1 + 2 * (k % (RECORD / 2));
+        for (turn, table) in [enough, enough - RECORD, more].into_iter().enumerate() {
+            let fill = FILLS[(k + turn) % FILLS.len()];
+            out.push(case(&rule, table, frames(&rule), fill));
+        }
+    }
+    out
+}
+
+/// Random rules. The trials of each are counted here, which takes long.
 pub fn random_cases(seed: u64) -> Vec<SearchCase> {
     let mut random = generator(seed, 602);
-    (0..10_000).map(|_| random_case(&mut random)).collect()
+    (0..RANDOM).map(|_| random_case(&mut random)).collect()
 }
 
 /// The samples, with tables of whole records and of a byte more or less, up to
@@ -203,6 +365,18 @@ fn thousand_states(out: &mut Vec<SearchCase>) {
         (enough, 0xa5),
     ] {
         out.push(case(&rule, table, frames(&rule), fill));
+    }
+}
+
+/// Rules of many states with tables of few records, so that many states share a
+/// place in the index before there is no room.
+fn few_records(out: &mut Vec<SearchCase>) {
+    for (k, (_, text)) in LARGE.into_iter().enumerate() {
+        let rule = bytes(text);
+        for (turn, records) in [1, 2, 3, 5, 7].into_iter().enumerate() {
+            let fill = FILLS[(k + turn) % FILLS.len()];
+            out.push(case(&rule, records * RECORD, frames(&rule), fill));
+        }
     }
 }
 
@@ -384,17 +558,17 @@ fn random_table(random: &mut Random, states: usize) -> usize {
         5 => enough + random.below(RECORD),
         6 => enough + random.below(20 * RECORD),
         7 => random.between(0, enough),
-        8 => random.between(enough, 900 * RECORD),
+        8 => enough + random.below(900 * RECORD),
         _ => random.pick(&[0, 1, 79, 80, 159, 160, 65_536]),
     }
 }
 
-/// One of the sizes: what is compared at most, and the states that are counted.
-fn random_size(random: &mut Random) -> (u64, usize) {
+/// The trials of one of the sizes, at most.
+fn random_size(random: &mut Random) -> u64 {
     let mut left = random.below(1_000);
-    for (often, compared, states) in SIZES {
+    for (often, trials) in SIZES {
         if left < often {
-            return (compared, states);
+            return trials;
         }
         left -= often;
     }
@@ -404,9 +578,10 @@ fn random_size(random: &mut Random) -> (u64, usize) {
 /// A random rule of a random size, with a table that goes by its states and a
 /// witness buffer that is long enough, or now and then not.
 fn random_case(random: &mut Random) -> SearchCase {
-    let (most, states) = random_size(random);
-    // The larger sizes are not for small rules, as far as others come up.
-    let mut least = if most > 10_000 { most / 8 } else { 0 };
+    let most = random_size(random);
+    // The smallest size is for any rule, the others are not for small ones.
+    let least = if most == SIZES[0].1 { 0 } else { most / 8 };
+    let states = (most / TRIALS) as usize;
     loop {
         let f = random_formula(random);
         let found = explored(&f, states).states;
@@ -419,9 +594,7 @@ fn random_case(random: &mut Random) -> SearchCase {
         } else {
             random_table(random, found)
         };
-        let compared = explored(&f, room(table)).compared;
-        if compared < least || compared > most {
-            least -= least / 32;
+        if explored(&f, room(table)).trials < least {
             continue;
         }
         let frames = f.horizon() + 1;
@@ -454,17 +627,37 @@ mod tests {
         assert_eq!(cases, search_cases(1));
         assert_ne!(cases, search_cases(2));
         assert!((14_000..15_000).contains(&cases.len()), "{}", cases.len());
-        let long = |case: &&SearchCase| case.table > 131_072;
+        let long = |case: &&SearchCase| case.table > 1_000_000;
         assert_eq!(cases.iter().filter(long).count(), 11);
         assert!(cases.iter().all(|case| case.witness < 4_200));
-        // What a walk through all records compares.
-        let compared = |case: &SearchCase| {
+        let trials = |case: &SearchCase| {
             let f = searched(case)?;
-            Some(explored(&f, room(case.table as usize)).compared)
+            Some(explored(&f, room(case.table as usize)).trials)
         };
-        let sum: u64 = cases.iter().filter_map(compared).sum();
-        println!("{} cases compare {sum} records", cases.len());
-        assert!(sum < 600_000_000, "{sum}");
+        let random = &cases[cases.len() - RANDOM..];
+        let counts: Vec<u64> = random.iter().filter_map(trials).collect();
+        let sum: u64 = counts.iter().sum();
+        println!("{} random cases have {sum} trials", counts.len());
+        assert!(sum < 40_000_000, "{sum}");
+        // The least numbers are about a fifth below those found.
+        for (states, least) in [(20, 380), (60, 120), (500, 18), (1_000, 10)] {
+            let count = counts.iter().filter(|&&n| n >= states * TRIALS).count();
+            println!("{count} have {states} states or more");
+            assert!(count >= least, "{count} have {states} states or more");
+        }
+    }
+
+    #[test]
+    fn large_rules_have_so_many_states_and_flags_and_are_met_in_turn() {
+        let mut flags = [0; 9];
+        for (k, (states, text)) in LARGE.into_iter().enumerate() {
+            let f = load(&bytes(text)).unwrap().formula;
+            let explored = explored(&f, usize::MAX);
+            assert_eq!(explored.states, states, "{text}");
+            assert_eq!(explored.clip.is_some(), k % 2 == 1, "{text}");
+            flags[bytes_of_flags(&f).len().ilog2() as usize] += 1;
+        }
+        assert_eq!(flags, [0, 9, 0, 0, 9, 0, 0, 0, 9]);
     }
 
     #[test]
@@ -500,15 +693,16 @@ mod tests {
         [1, 4, 16, 64].iter().filter(|&&most| count > most).count()
     }
 
-    /// Each case is answered, and where no refusal comes before 15, once more by the
-    /// bytes of the rule's flags, with many more records than there are.
+    /// Each case but the large ones is answered, and where no refusal comes before 15,
+    /// once more by the bytes of the rule's flags, with many more records than there
+    /// are.
     #[test]
     fn rules_are_met_or_not_and_refused_in_each_way() {
         let mut refused = [0; 17];
         let (mut met, mut none) = ([0; 5], [0; 5]);
         // Met although a state was found for which there is no room.
         let mut full = 0;
-        for case in search_cases(1) {
+        for case in edge_cases(1).into_iter().chain(random_cases(1)) {
             let mut table = vec![case.fill; case.table as usize];
             let mut witness = vec![case.fill; case.witness as usize];
             let answer = search(&case.rule, &mut table, &mut witness);

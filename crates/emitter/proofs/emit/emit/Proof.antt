@@ -1,67 +1,25 @@
--- `emit` meets its contract: the tests of rule and room are the definition's, in its order, and past them the code of the rule's items is copied.
-use mathlib.Core.Path.{refl, sym}
+-- `emit` meets its contract: the rule is loaded, and what is emitted of it is what the definition says.
 use native.Mathlib.Omega.{arith}
-use Rattle.reading.specs.Buffers.{AllBytes}
-use Rattle.emitter.proofs.Emitting.{Accepts, accepts, emits, part-inside, part-length, part-fits, answer-short, answer-length, answer-bytes, answer-refused}
+use Rattle.emitter.specs.Emitting.{Loads}
 use borrow.Author.Needs.{needs}
 use Rattle.emitter.proofs.emit.emit.Statement.{statement}
 use Rattle.emitter.proofs.emit.emit.Tie as tie
 
+-- the rule is loaded from its bytes
+loads : (c : tie.After-decode) → Loads (c .before .before .before .args .rule .now) (c .decode .result)
+loads c = record { small = λ i. omega (arith, c .before .before .shared-slice-known .given i); own = c .decode .ensures }
+
 decode-requires : tie.Need-decode-requires
 decode-requires c κs = search needs
 
-enum-known-loaded : tie.Need-enum-known-loaded
-enum-known-loaded c = search needs
-
--- the rule is accepted
-is-accepted : (c : tie.After-loaded) → Accepts (c .before .before .before .before .before .args .rule .now) (c .before .before .decode .result) (c .loaded .given .0 .0)
-is-accepted c =
-    let small : AllBytes (c .before .before .before .before .before .args .rule .now) = λ i. omega (arith, c .before .before .before .before .shared-slice-known .given i) in
-    accepts _ _ _ _ small (c .before .before .decode .ensures) (sym (c .loaded .given .1))
-
-slice-aggregate-emit-items : tie.Need-slice-aggregate-emit-items
-slice-aggregate-emit-items c = search needs
-
-emit-items-requires : tie.Need-emit-items-requires
-emit-items-requires c κs = emits _ _ _ (is-accepted (c .before .before)) _ refl
-
-returns : tie.Need-returns
-returns c = (answer-short _ _ _ (is-accepted (c .before .before .before .before .before)) _ _ _ (c .before .before .emit-items .ensures) _ (c .if1 .taken), refl)
-
-array-share-prefix-code : tie.Need-array-share-prefix-code
-array-share-prefix-code c = part-inside _ _ _ (is-accepted (c .before .before .before .before .before)) _ _ _ (c .before .before .emit-items .ensures)
-
-slice-aggregate-copy : tie.Need-slice-aggregate-copy
-slice-aggregate-copy c = part-length _ _ _ (is-accepted (c .before .before .before .before .before .before)) _ _ _ (c .before .before .before .emit-items .ensures)
-
-copy-requires : tie.Need-copy-requires
-copy-requires c κs = part-fits _ _ _ (is-accepted (c .before .before .before .before .before .before .before)) _ _ _ (c .before .before .before .before .emit-items .ensures) (c .before .before .before .before .before .before .before .before .before .before .before .before .args .out .now) (c .before .before .if1 .left)
-
-enum-known-loaded-2 : tie.Need-enum-known-loaded-2
-enum-known-loaded-2 c = search needs
+emit-rule-requires : tie.Need-emit-rule-requires
+emit-rule-requires c κs = (_, loads (c .before))
 
 same-length : tie.Need-same-length
 same-length c = search needs
 
-returns-2 : tie.Need-returns-2
-returns-2 c = let a = is-accepted (c .before .before .before .before .before .before .before .before .before .before) in let w = c .before .before .before .before .before .before .before .emit-items .ensures in let fits = c .before .before .before .before .before .if1 .left in (answer-length _ _ _ a _ _ _ w _ fits, answer-bytes _ _ _ a _ _ _ w _ fits _ (c .before .before .copy .ensures .1))
-
-returns-3 : tie.Need-returns-3
-returns-3 c = (answer-refused _ _ _ _ (c .before .before .before .decode .ensures) (sym (c .before .loaded2 .given .1)), refl)
+returns : tie.Need-returns
+returns c = c .before .before .emit-rule .ensures _ (loads (c .before .before .before .before))
 
 pub emit-spec : {M : Type 1} → statement M
-emit-spec =
-    tie.close
-    (tie.spec
-    decode-requires
-    enum-known-loaded
-    slice-aggregate-emit-items
-    emit-items-requires
-    returns
-    array-share-prefix-code
-    slice-aggregate-copy
-    copy-requires
-    enum-known-loaded-2
-    same-length
-    returns-2
-    returns-3)
+emit-spec = tie.close (tie.spec decode-requires emit-rule-requires same-length returns)

@@ -5,7 +5,7 @@ use native.Mathlib.Omega.{arith}
 use Rattle.reading.specs.Limits.{limits}
 use Rattle.finder.specs.Tables.{Looks}
 use Rattle.finder.specs.declared.table.Look.{Look}
-use Rattle.finder.proofs.Exploring.{stored-fits, next-fits, state-most, keeping-known, keeping-full, keeping-new}
+use Rattle.finder.proofs.Exploring.{filled, can-store, state-most, keeping-known, keeping-full, keeping-new}
 use borrow.Author.Needs.{needs}
 use Rattle.finder.proofs.explore.keep.Statement.{statement}
 use Rattle.finder.proofs.explore.keep.Tie as tie
@@ -16,10 +16,10 @@ most c = state-most (c .pre .2 .exploring) (c .pre .2 .more)
 
 -- the state is new
 nowhere : (c : tie.After-enum-told2) → Looks (c .before .before .before .before .before .args .table .now) (c .before .before .before .before .before .args .kept .stored) (c .before .before .before .before .before .args .registers) Look.Nowhere
-nowhere c = subst (Looks _ _ _) (c .enum-told2 .given .1) (c .before .before .find .ensures)
+nowhere c = subst (Looks _ _ _) (c .enum-told2 .given .1) (c .before .before .find .ensures _ (filled (c .before .before .before .before .before .pre .2 .exploring)))
 
 find-requires : tie.Need-find-requires
-find-requires c κs = stored-fits (c .before .before .pre .2 .exploring)
+find-requires c κs = (_, filled (c .before .before .pre .2 .exploring))
 
 enum-told : tie.Need-enum-told
 enum-told c = search needs
@@ -37,7 +37,7 @@ add-store : tie.Need-add-store
 add-store c = omega (arith, most (c .before .before .before .before .before .before .before .before))
 
 store-requires : tie.Need-store-requires
-store-requires c κs = (next-fits (c .before .before .before .before .before .before .before .before .pre .2 .exploring) (omega (arith, c .before .if1 .left)), most (c .before .before .before .before .before .before .before .before))
+store-requires c κs = let p = c .before .before .before .before .before .before .before .before .pre .2 in can-store (p .exploring) (p .more) (omega (arith, c .before .if1 .left))
 
 add-t15 : tie.Need-add-t15
 add-t15 c = omega (arith, c .before .before .before .before .before .if1 .left, c .before .before .before .before .before .before .before .before .before .before .before .before .pre .2 .exploring .holds .most)
@@ -46,7 +46,7 @@ same-length-2 : tie.Need-same-length-2
 same-length-2 c = search needs
 
 returns-2 : tie.Need-returns-2
-returns-2 c = keeping-known _ _ _ _ _ _ _ (subst (Looks _ _ _) (c .enum-told .given .1) (c .before .before .find .ensures))
+returns-2 c = keeping-known _ _ _ _ _ _ _ (subst (Looks _ _ _) (c .enum-told .given .1) (c .before .before .find .ensures _ (filled (c .before .before .before .before .before .pre .2 .exploring))))
 
 same-length-3 : tie.Need-same-length-3
 same-length-3 c = search needs

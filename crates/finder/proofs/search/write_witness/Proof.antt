@@ -20,11 +20,11 @@ slice-write-witness c = omega (arith, c .before .before .pre .room)
 record-at-requires : tie.Need-record-at-requires Inv-loop μ-loop
 record-at-requires c κs = c .before .before .pre .inside
 
-link-of-requires : tie.Need-link-of-requires Inv-loop μ-loop
-link-of-requires c κs = ap list.length (c .record-at .ensures) ∙ record-length _ _ (c .before .before .before .pre .inside)
+link-at-requires : tie.Need-link-at-requires Inv-loop μ-loop
+link-at-requires c κs = let long = ap list.length (c .record-at .ensures) ∙ record-length _ _ (c .before .before .before .pre .inside) in omega (arith, long)
 
 loop-holds : tie.Need-loop-holds Inv-loop μ-loop
-loop-holds c = walks-first _ _ _ _ (c .before .before .before .before .pre) _ (c .link-of .ensures ∙ ap linkIn (c .before .record-at .ensures))
+loop-holds c = walks-first _ _ _ _ (c .before .before .before .before .pre) _ (c .link-at .ensures .0 ∙ ap linkIn (c .before .record-at .ensures))
 
 record-at-requires-2 : tie.Need-record-at-requires-2 Inv-loop μ-loop
 record-at-requires-2 c κs = c .before .loop .inv .inside
@@ -44,14 +44,14 @@ sub-at c = let more : c .before .before .before .loop .link ≡ 0 → ⊥ = c .b
 record-at-requires-3 : tie.Need-record-at-requires-3 Inv-loop μ-loop
 record-at-requires-3 c κs = walks-inside _ _ _ _ (c .before .before .before .loop .inv) (c .before .before .loop-test .taken)
 
-link-of-requires-2 : tie.Need-link-of-requires-2 Inv-loop μ-loop
-link-of-requires-2 c κs = ap list.length (c .record-at3 .ensures) ∙ record-length _ _ (record-at-requires-3 (c .before) κs)
+link-at-requires-2 : tie.Need-link-at-requires-2 Inv-loop μ-loop
+link-at-requires-2 c κs = let long = ap list.length (c .record-at3 .ensures) ∙ record-length _ _ (record-at-requires-3 (c .before) κs) in omega (arith, long)
 
 loop-less : tie.Need-loop-less Inv-loop μ-loop
 loop-less c = walks-less _ _ _ _ (c .before .before .before .before .before .loop .inv) (c .before .before .before .before .loop-test .taken)
 
 loop-again : tie.Need-loop-again Inv-loop μ-loop
-loop-again c = walks-more _ _ _ _ (c .before .before .before .before .before .loop .inv) (c .before .before .before .before .loop-test .taken) _ (c .before .before .frame-of .ensures ∙ ap frameIn (c .before .before .before .record-at2 .ensures)) _ (c .link-of2 .ensures ∙ ap linkIn (c .before .record-at3 .ensures))
+loop-again c = walks-more _ _ _ _ (c .before .before .before .before .before .loop .inv) (c .before .before .before .before .loop-test .taken) _ (c .before .before .frame-of .ensures ∙ ap frameIn (c .before .before .before .record-at2 .ensures)) _ (c .link-at2 .ensures .0 ∙ ap linkIn (c .before .record-at3 .ensures))
 
 same-length : tie.Need-same-length Inv-loop μ-loop
 same-length c = c .before .loop .inv .same ∙ list.length-set (c .before .before .before .before .before .before .args .witness .now) 0 (c .before .before .before .before .before .before .args .frame)
@@ -67,7 +67,7 @@ write-witness-spec =
     μ-loop
     slice-write-witness
     record-at-requires
-    link-of-requires
+    link-at-requires
     loop-holds
     record-at-requires-2
     frame-of-requires
@@ -75,7 +75,7 @@ write-witness-spec =
     add-length
     sub-at
     record-at-requires-3
-    link-of-requires-2
+    link-at-requires-2
     loop-less
     loop-again
     same-length
