@@ -73,7 +73,7 @@ static inline uint64_t decode(const uint8_t *bytes, size_t length, instruction *
 }
 
 // One frame through decoded code. A delay line is moved by a plain loop: most are short, and a call of memmove takes longer (bench/run and
-// bench/figures/build.rs keep gcc from making the one of the other).
+// bench/figures/build.rs keep gcc from turning the loop into the call).
 static inline bool step(const instruction *restrict code, size_t count, registers *restrict r, bool *restrict bits, uint8_t frame) {
     uint16_t *counter = r->counters;
     bool *line = r->delays;

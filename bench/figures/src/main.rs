@@ -5,8 +5,9 @@
 //! - `figures solver DIRECTORY`: the search beside z3, whose scripts go to the
 //!   directory.
 //!
-//! The status is 0 if all answers agree and no target is missed, 2 if only a target
-//! is, and 1 if an answer differs or the part cannot be printed.
+//! The status is 0 if all answers agree and no target is missed, 1 if an answer
+//! differs, 2 if only a target is missed, and 3 if the part cannot be printed or
+//! nothing is compared; a panic gives 101.
 
 mod answer;
 mod archive;
@@ -44,7 +45,7 @@ fn main() -> ExitCode {
         Ok(verdict) => verdict.end(words[0]),
         Err(error) => {
             eprintln!("figures: {error}");
-            ExitCode::FAILURE
+            ExitCode::from(3)
         }
     }
 }

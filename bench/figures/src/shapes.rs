@@ -185,7 +185,7 @@ fn mixed(random: &mut Random, bound: usize) -> Formula {
 }
 
 /// Windows that cannot all be kept to: something at some time within a window, and
-/// never in a longer one, beside other windows.
+/// never in one that holds it, beside other windows.
 fn clash(random: &mut Random, bound: usize) -> Formula {
     let w = window(random, bound);
     let what = literals(random);

@@ -2,11 +2,12 @@
 //! satisfiable exactly if a clip of one frame or more satisfies the rule.
 //!
 //! What is written is `fol(φ, k, len)` as the section defines it, with one
-//! `define-fun` for each item, of the place k and the clip's length len. A flag is an
-//! uninterpreted function from places to Bool. As in the paper the formula is first
-//! brought to not, and, until, with true and flags. By the definition `fol(φ, k, len)`
-//! implies k < len, for each φ; so the clip has a frame, and the places i of an until
-//! are within the clip, as section 2 of the paper wants.
+//! `define-fun` for each subformula that is left, of the place k and the clip's length
+//! len. A flag is an uninterpreted function from places to Bool. As in the paper the
+//! formula is first brought to not, and, until, with true and flags. By the definition
+//! `fol(φ, k, len)` implies k < len, for each φ; so the clip has a frame, and the
+//! places i of an until are within the clip, as section 2 of the paper wants. A double
+//! negation is left out, as `fol` implies k < len.
 //!
 //! Where the section's SMT-LIB text and its definition differ, the definition decides:
 //!

@@ -34,17 +34,18 @@ impl Verdict {
         ", MISSED"
     }
 
-    /// The last line and the status: 1 if an answer differs, else 2 if a target is
-    /// missed, else 0.
+    /// The last line and the status: 3 if there is no row, 1 if an answer differs, 2
+    /// if only a target is missed, else 0.
     pub fn end(&self, part: &str) -> ExitCode {
         println!(
             "{part}: {} rows, {} different; {} targets, {} missed",
             self.rows, self.different, self.targets, self.missed
         );
-        match (self.different, self.missed) {
-            (0, 0) => ExitCode::SUCCESS,
-            (0, _) => ExitCode::from(2),
-            _ => ExitCode::FAILURE,
-        }
+        ExitCode::from(match (self.rows, self.different, self.missed) {
+            (0, _, _) => 3,
+            (_, 0, 0) => 0,
+            (_, 0, _) => 2,
+            _ => 1,
+        })
     }
 }

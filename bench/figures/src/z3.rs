@@ -9,16 +9,18 @@ use std::time::Instant;
 /// z3 gives up after so many seconds.
 pub const LIMIT: usize = 10;
 /// z3 gives up if it needs so many megabytes.
-const MEMORY: usize = 2_000;
+pub const MEMORY: usize = 2_000;
 
 /// What z3 says of a script.
 #[derive(Clone, Copy, Debug, PartialEq, Eq)]
 pub enum Said {
     Satisfiable,
     Unsatisfiable,
-    /// It stopped at the limit.
+    /// It stopped at the limit of time.
     TimedOut,
-    /// It said that it does not know, or anything else.
+    /// It stopped at the limit of memory.
+    OutOfMemory,
+    /// It said that it does not know.
     Unknown,
 }
 
@@ -28,6 +30,7 @@ impl Said {
             Said::Satisfiable => "sat",
             Said::Unsatisfiable => "unsat",
             Said::TimedOut => "time out",
+            Said::OutOfMemory => "memory",
             Said::Unknown => "unknown",
         }
     }
@@ -41,7 +44,8 @@ pub fn version() -> Option<String> {
 }
 
 /// Writes the script to a file, starts z3 on it, and gives what it says and the
-/// seconds from its start to its end.
+/// seconds from its start to its end. Anything that is no answer, such as an error
+/// in the script, is an error.
 pub fn decide(script: &str, file: &Path) -> io::Result<(Said, f64)> {
     fs::write(file, script)?;
     let began = Instant::now();
@@ -52,11 +56,18 @@ pub fn decide(script: &str, file: &Path) -> io::Result<(Said, f64)> {
         .arg(file)
         .output()?;
     let seconds = began.elapsed().as_secs_f64();
-    let said = match String::from_utf8_lossy(&output.stdout).trim() {
+    // Out of memory is said to the standard error.
+    let text = [output.stdout, output.stderr].concat();
+    let said = match String::from_utf8_lossy(&text).trim() {
         "sat" => Said::Satisfiable,
         "unsat" => Said::Unsatisfiable,
         "timeout" => Said::TimedOut,
-        _ => Said::Unknown,
+        "(error \"out of memory\")" => Said::OutOfMemory,
+        "unknown" => Said::Unknown,
+        text => {
+            let file = file.display();
+            return Err(io::Error::other(format!("z3 said of {file}: {text}")));
+        }
     };
     Ok((said, seconds))
 }

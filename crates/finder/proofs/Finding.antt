@@ -34,7 +34,7 @@ use Rattle.rules.specs.declared.load.Rule.{Rule}
 use Rattle.sequencer.specs.declared.load.Loaded as program
 use Rattle.sequencer.specs.declared.load.Program.{Program}
 use Rattle.sequencer.proofs.Accepted.{ready-code}
-use Rattle.emitter.specs.Emitting.{mostCodeBytes, emittedOf, outAfter}
+use Rattle.emitter.specs.Emitting.{mostCodeBytes, Loads, emittedOf, outAfter}
 use Rattle.emitter.specs.Translation.{codeFor, codeBytes}
 use Rattle.emitter.specs.declared.emit.Emitted.{Emitted}
 use Rattle.emitter.proofs.Accepted.{code-some, good-code, code-accepted}
@@ -190,18 +190,19 @@ module _ (rule : List ℕ) (small : AllBytes rule) (is : Items) (f : Formula) (r
           own-witness = a .own-witness;
         }
 
+-- A rule that is loaded has the answer of loading
+pub rule-loaded : (bytes : List ℕ) (rule : Rule) → rule ≡ ruleOf (readRule bytes) → rule .loaded ≡ loadedOf (readRule bytes)
+unfolding ruleOf
+rule-loaded bytes rule loads = ap (λ r. r .loaded) loads
+
 -- What `search` says, by what loading the rule answers
-module _ (rule : List ℕ) (read : Rule) (loads : read ≡ ruleOf (readRule rule)) where
-  own : read .loaded ≡ loadedOf (readRule rule)
-  unfolding ruleOf
-  own = ap (λ r. r .loaded) loads
+module _ (rule : List ℕ) (answer : Loaded) (own : answer ≡ loadedOf (readRule rule)) where
+  pub says-refused : (table witness : List ℕ) (r : Refusal) → answer ≡ Loaded.Refused r → SearchSays (readRule rule) table witness (Found.Refused r) table witness
+  says-refused table witness r e = rw (loaded-refused (readRule rule) r (sym e ∙ own)) (record { own-answer = refl; own-table = refl; own-witness = refl })
 
-  pub says-refused : (table witness : List ℕ) (r : Refusal) → Loaded.Refused r ≡ read .loaded → SearchSays (readRule rule) table witness (Found.Refused r) table witness
-  says-refused table witness r e = rw (loaded-refused (readRule rule) r (e ∙ own)) (record { own-answer = refl; own-table = refl; own-witness = refl })
-
-  module _ (n h : ℕ) (e : Loaded.Accepted n h ≡ read .loaded) where
+  module _ (n h : ℕ) (e : answer ≡ Loaded.Accepted n h) where
     rule-read : (is : Items) × (f : Formula) × (readRule rule ≡ accepted is f) × (n ≡ length is) × (h ≡ horizon f)
-    rule-read = loaded-accepted (readRule rule) n h (e ∙ own)
+    rule-read = loaded-accepted (readRule rule) n h (sym e ∙ own)
 
     pub horizon-near : AllBytes rule → h ≤ mostHorizon
     horizon-near small = let (is, f, reads, many, near) = rule-read in omega (arith, accepted-rule rule is f small reads .near)
@@ -214,8 +215,8 @@ module _ (rule : List ℕ) (read : Rule) (loads : read ≡ ruleOf (readRule rule
           rw (reads, l) (record { own-answer = refl; own-table = refl; own-witness = refl })
 
       module _ (long : h + 1 ≤ length witness) where
-        pub searchable : AllBytes rule → Searchable rule read witness
-        searchable small = let (is, f, reads, many, near) = rule-read in record { loads = record { small = small; own = loads }; is = is; formula = f; reads = reads; long = omega arith }
+        pub searchable : (read : Rule) → Loads rule read → Searchable rule read witness
+        searchable read loads = let (is, f, reads, many, near) = rule-read in record { loads = loads; is = is; formula = f; reads = reads; long = omega arith }
 
         pub says-answers : (table : List ℕ) (r : Found) (table′ witness′ : List ℕ) → RuleAnswers rule table witness r table′ witness′ → SearchSays (readRule rule) table witness r table′ witness′
         says-answers table r table′ witness′ answers =
