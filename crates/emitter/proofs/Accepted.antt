@@ -5,30 +5,30 @@ use mathlib.Core.List.{List, [], _∷_, _++_, append-assoc, append-nil}
 use Prim.Native.Nat.{ℕ, zero, suc, _+_, _≤_}
 use native.Mathlib.Omega.{arith}
 use lib.ListN.{length, length-append}
-use Rattle.reading.specs.Each.{Each}
+use Rattle.ground.specs.Each.{Each}
 use Rattle.reading.specs.InTurn.{items}
-use Rattle.reading.specs.Limits.{limits}
-use Rattle.reading.proofs.Each.{each-parted}
-use Rattle.rules.specs.Accepted.{IsRule}
+use Rattle.ground.specs.Limits.{limits}
+use Rattle.ground.proofs.Each.{each-parted}
+use Rattle.rules.specs.Accepted.{IsRule, InRange}
 use Rattle.rules.specs.Formula.{Formula}
-use Rattle.rules.specs.Good.{InRange, postfix}
+use Rattle.rules.specs.Items.{postfix}
 use Rattle.rules.specs.Loading.{Items}
 use Rattle.rules.specs.declared.item.Item.{Item}
-use Rattle.sequencer.specs.Code.{Instruction, Code}
-use Rattle.sequencer.specs.Good.{Fine, Good}
-use Rattle.sequencer.specs.Loading.{distanceOf, reachesIn, distanceIn, readCode}
-use Rattle.sequencer.specs.Rows.{rowOf}
-use Rattle.sequencer.proofs.Complete.{code-read}
-use Rattle.sequencer.proofs.Counting.{reaches-more, distance-more, good-none, good-more}
-use Rattle.sequencer.proofs.Instructions.{code-length}
-use Rattle.emitter.specs.Emitting.{mostInstructions, mostCodeBytes}
+use Rattle.code.specs.Code.{Instruction, Code}
+use Rattle.code.specs.Good.{FineInstruction, GoodCode}
+use Rattle.code.specs.Loading.{distanceOf, reachesIn, distanceIn, readCode}
+use Rattle.code.specs.Inner.Rows.{rowOfInstruction}
+use Rattle.code.proofs.Complete.{code-read}
+use Rattle.code.proofs.Counting.{reaches-more, distance-more, good-none, good-more}
+use Rattle.code.proofs.Instructions.{code-length}
+use Rattle.emitter.specs.Emit.{mostInstructions, mostCodeBytes}
 use Rattle.emitter.specs.Translation.{laterBy, timed, itemCode, behind, afterOne, afterTwo, translate, codeFor, codeBytes}
 use Rattle.emitter.proofs.Sizes.{Earlier, Grown, grown}
 
 -- An instruction whose own numbers no test refuses, where so many are earlier
 abbrev Fits : ℕ → Instruction → Type 0
 Fits n i =
-    (rowOf i .flag ≤ limits .flag) × (rowOf i .needs ≤ n) × (rowOf i .width ≤ limits .width) × (rowOf i .later ≤ distanceOf i) × (distanceOf i ≤ limits .distance)
+    (rowOfInstruction i .flag ≤ limits .flag) × (rowOfInstruction i .needs ≤ n) × (rowOfInstruction i .width ≤ limits .width) × (rowOfInstruction i .later ≤ distanceOf i) × (distanceOf i ≤ limits .distance)
 
 -- instructions like that, where so many are earlier than the first
 abbrev Fit : ℕ → Code → Type 0
@@ -92,19 +92,19 @@ formula-fit c (Formula.Eventually a b f) p e = after-one c f (formula-fit c f p)
 formula-fit c (Formula.Globally a b f) p e = after-one c f (formula-fit c f p) (Item.Globally a b) e
 
 -- behind some instructions others are to come, and with them the limits are kept
-record Ahead (is js : Code) : Type 0 where
+record CodeAhead (is js : Code) : Type 0 where
   fit : Fit (length is) js
   instructions : length is + length js ≤ limits .instructions
   reaches : reachesIn is + reachesIn js ≤ limits .counters
   distance : distanceIn is + distanceIn js ≤ limits .delays
 
 -- so each is fine after those before it
-all-fine : (is js : Code) → Good is → Ahead is js → Good (is ++ js)
+all-fine : (is js : Code) → GoodCode is → CodeAhead is js → GoodCode (is ++ js)
 unfolding reachesIn distanceIn
 all-fine is [] g a = rw append-nil g
 all-fine is (i ∷ js) g a =
     let own : Fits (length is) i = a .fit .0 in
-    let f : Fine is i =
+    let f : FineInstruction is i =
     record {
       flag = omega arith;
       earlier = omega arith;
@@ -115,7 +115,7 @@ all-fine is (i ∷ js) g a =
       counters = omega arith;
       delays = omega arith;
     } in
-    let less : Ahead (is ++ i ∷ []) js =
+    let less : CodeAhead (is ++ i ∷ []) js =
     record {
       fit = rw length-append (a .fit .1);
       instructions = simp length-append (omega arith);
@@ -135,7 +135,7 @@ pub code-bytes : (bytes : List ℕ) (is : Items) (f : Formula) → IsRule bytes 
 unfolding reachesIn
 code-bytes bytes is f r = let s = size bytes is f r in omega (arith, code-length (codeFor f))
 
-pub good-code : (bytes : List ℕ) (is : Items) (f : Formula) → IsRule bytes is f → Good (codeFor f)
+pub good-code : (bytes : List ℕ) (is : Items) (f : Formula) → IsRule bytes is f → GoodCode (codeFor f)
 unfolding reachesIn distanceIn
 good-code bytes is f r =
     let s = size bytes is f r in

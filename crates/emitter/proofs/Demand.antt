@@ -8,30 +8,30 @@ use native.Mathlib.Omega.{arith}
 use borrow.Author.Tests.{le-ltb, ne-eqb}
 use lib.ListN.{length, getD, take, drop, length-append, length-drop, List·getD-append}
 use lib.Seq.{take-at, drop-at}
-use Rattle.reading.specs.Buffers.{AllBytes}
-use Rattle.reading.specs.Frames.{Clip}
-use Rattle.reading.specs.InTurn.{items, inTurn, walked}
+use Rattle.ground.specs.Buffers.{AllBytes, byteOf}
+use Rattle.ground.specs.Frames.{Clip}
+use Rattle.reading.specs.InTurn.{items, inTurn, readAll}
 use Rattle.reading.specs.Items.{itemAt, numbersFrom, look, ruleCodes}
-use Rattle.reading.specs.Limits.{limits}
-use Rattle.reading.proofs.Buffers.{long-enough}
-use Rattle.reading.proofs.Choices.{bool-false}
+use Rattle.ground.specs.Limits.{limits}
+use Rattle.ground.proofs.Buffers.{long-enough}
+use Rattle.ground.proofs.Choices.{bool-false}
 use Rattle.rules.specs.Formula.{Formula}
 use Rattle.rules.specs.Items.{itemOf, apply}
-use Rattle.rules.specs.Loading.{Items, accepted, stackFrom, timedIn, lowerIn, countsOf, countedOf, badWindow, tooLarge, judgeOf, readRule}
+use Rattle.rules.specs.Loading.{Items, accepted, stackFrom, timedIn, lowerIn, ruleCounts, ruleCounted, badWindow, ruleTooLarge, checkItem, readRule}
 use Rattle.rules.specs.Meaning.{Holds, holds}
 use Rattle.rules.proofs.Accepted.{accepted-rule}
 use Rattle.rules.proofs.Agreement.{agreement}
 use Rattle.sequencer.proofs.Running.{verdict-at, verdicts-length}
 use Rattle.sequencer.specs.Bits.{output}
-use Rattle.sequencer.specs.Code.{Code}
-use Rattle.sequencer.specs.Loading.{readCode, codeOf}
-use Rattle.sequencer.specs.Running.{byteOf, verdicts, badClip, ranOf, bufferAfter}
+use Rattle.code.specs.Code.{Code}
+use Rattle.code.specs.Loading.{readCode, codeOf}
+use Rattle.sequencer.specs.Running.{verdicts, badClip, ranOf, bufferAfter}
 use Rattle.sequencer.specs.declared.run.Ran.{Ran}
 use Rattle.emitter.specs.Demand.{EmitSays, RunSays, Verdicts, Meets, DemandThree}
 use Rattle.emitter.specs.Translation.{codeFor, codeBytes}
 use Rattle.emitter.specs.declared.emit.Emitted.{Emitted}
 use Rattle.emitter.proofs.Accepted.{code-accepted}
-use Rattle.emitter.proofs.Emitting.{has-room}
+use Rattle.emitter.proofs.Answered.{has-room}
 use Rattle.emitter.proofs.Wires.{output-holds}
 use Rattle.emitter.proofs.emit.emit.Reads as emit
 use Rattle.sequencer.proofs.run.run.Reads as run
@@ -97,7 +97,7 @@ one-byte b h (suc i) = omega arith
 
 -- No one code meets the demand for every accepted rule: of `10`, true, and `11`, false, one byte would be both 1 and 0
 pub no-fixed-code : (code : List ℕ) → ((rule : List ℕ) (is : Items) (f : Formula) → AllBytes rule → readRule rule ≡ accepted is f → Meets f code) → ⊥
-unfolding readRule walked inTurn itemAt numbersFrom look ruleCodes itemOf apply stackFrom timedIn lowerIn countsOf countedOf badWindow tooLarge judgeOf Holds
+unfolding readRule readAll inTurn itemAt numbersFrom look ruleCodes itemOf apply stackFrom timedIn lowerIn ruleCounts ruleCounted badWindow ruleTooLarge checkItem Holds
 no-fixed-code code meets =
     let yes = one-frame Formula.True code (meets (0x10 ∷ []) _ Formula.True (one-byte 0x10 (omega arith)) refl) in
     let no = one-frame Formula.False code (meets (0x11 ∷ []) _ Formula.False (one-byte 0x11 (omega arith)) refl) in

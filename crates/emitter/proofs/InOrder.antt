@@ -1,4 +1,4 @@
--- The items of a rule, emitted in order. `Stands` says where the loop stands: behind the first k items the buffer holds the code of the formulas that these make, and the bits of these
+-- The items of a rule, emitted in order. `EmittedTo` says where the loop stands: behind the first k items the buffer holds the code of the formulas that these make, and the bits of these
 -- wait on the stack. One item more finds its operands and room, as the rule is within the limits, and what it writes makes the code of one item more.
 use mathlib.Core.Path.{_≡_, refl, ap, _∙_}
 use mathlib.Core.List.{List, [], _∷_, _++_}
@@ -7,28 +7,29 @@ use native.Mathlib.Nat.{zero-add}
 use native.Mathlib.Numerals.{add-one}
 use native.Mathlib.Omega.{arith}
 use borrow.Author.Tests.{lt-ltb, le-ltb, le-leb}
-use lib.ListN.{length, getD, set, length-append}
-use Rattle.reading.specs.Buffers.{over}
+use lib.ListN.{length, getD, set}
+use Rattle.ground.specs.Buffers.{over, written}
 use Rattle.reading.specs.InTurn.{bytesOfAll}
-use Rattle.reading.specs.Limits.{limits}
-use Rattle.reading.specs.Numbers.{written}
-use Rattle.reading.proofs.Written.{nothing, written-length}
+use Rattle.ground.specs.Limits.{limits}
+use Rattle.ground.proofs.Written.{nothing, written-length}
 use Rattle.rules.specs.Formula.{Formula}
-use Rattle.rules.specs.Items.{rowOf}
+use Rattle.rules.specs.Items.{rowOfItem}
 use Rattle.rules.specs.Loading.{stackFrom, stackOf}
 use Rattle.rules.specs.declared.item.Item.{Item}
-use Rattle.rules.specs.declared.item.Row.{Row}
+use Rattle.rules.specs.declared.item.ItemRow.{ItemRow}
 use Rattle.rules.specs.declared.load.Rule.{Rule}
 use Rattle.rules.proofs.Stack.{stack-more}
-use Rattle.sequencer.specs.Code.{bytesOf}
-use Rattle.emitter.specs.Emission.{stackCode, fromTop, ownCode, nextOf, Next, itemIn, itemsIn, Emits}
+use Rattle.code.specs.Code.{bytesOfInstruction}
+use Rattle.emitter.specs.Inner.Emission.{stackCode, fromTop, ownCode, nextOf, CanEmitNext, CanEmit}
+use Rattle.rules.specs.Loaded.{itemIn, itemsIn}
 use Rattle.emitter.specs.Translation.{itemCode}
-use Rattle.emitter.specs.Writing.{endAfter, Room, Wrote}
+use Rattle.emitter.specs.Inner.Write.{endAfter, CodeRoom, CodeWrote}
 use Rattle.emitter.specs.declared.emission.Emission.{Emission}
-use Rattle.emitter.specs.declared.write.End.{End}
+use Rattle.emitter.specs.declared.write.CodeEnd.{CodeEnd}
 use Rattle.emitter.proofs.Sizes.{item-size}
-use Rattle.emitter.proofs.Waiting.{Follows, follows-none, own-code, follows-more}
-use Rattle.emitter.proofs.Writing.{room-rest, wrote-more}
+use Rattle.emitter.proofs.Waiting.{Waits, follows-none, own-code, follows-more}
+use Rattle.emitter.proofs.Behind.{room-rest, wrote-more}
+use Rattle.rules.proofs.Loaded.{items-length}
 
 -- The bit below the top
 
@@ -42,49 +43,44 @@ one-there bits depth below h = rw (le-ltb depth below h)
 
 -- One item more
 
-module _ (out : List ℕ) (e : Emission) (item : Item) (next : Next out e item) (left right : ℕ) (l : left ≡ fromTop (e .bits) (e .depth) 2) (r : right ≡ fromTop (e .bits) (e .depth) 1) where
-  pub next-ready : (rowOf item .lower ≤ rowOf item .upper) × Room out (e .end) (itemCode (e .end .count) item left right)
+module _ (out : List ℕ) (e : Emission) (item : Item) (next : CanEmitNext out e item) (left right : ℕ) (l : left ≡ fromTop (e .bits) (e .depth) 2) (r : right ≡ fromTop (e .bits) (e .depth) 1) where
+  pub next-ready : (rowOfItem item .lower ≤ rowOfItem item .upper) × CodeRoom out (e .end) (itemCode (e .end .count) item left right)
   unfolding ownCode
   next-ready = (next .window, rw (l, r) (next .room))
 
-  module _ (after : List ℕ) (end : End) (w : Wrote out (e .end) (itemCode (e .end .count) item left right) after end) where
+  module _ (after : List ℕ) (end : CodeEnd) (w : CodeWrote out (e .end) (itemCode (e .end .count) item left right) after end) where
     -- it has an instruction, and so a last bit
     pub next-bit : 1 ≤ end .count
     unfolding endAfter
     next-bit = omega (arith, ap (λ x. x .count) (w .own-end), item-size (e .end .count) item left right .0)
 
-    pub next-wrote : (row : Row) → row ≡ rowOf item → (record { end = end; bits = set (e .bits) (e .depth - row .operands) (end .count - 1); depth = e .depth - row .operands + 1 } ≡ nextOf e item) × Wrote out (e .end) (ownCode e item) after end
+    pub next-wrote : (row : ItemRow) → row ≡ rowOfItem item → (record { end = end; bits = set (e .bits) (e .depth - row .operands) (end .count - 1); depth = e .depth - row .operands + 1 } ≡ nextOf e item) × CodeWrote out (e .end) (ownCode e item) after end
     unfolding ownCode nextOf
     next-wrote row own =
-        let v : Wrote out (e .end) (ownCode e item) after end = rw (← l, ← r) w in
+        let v : CodeWrote out (e .end) (ownCode e item) after end = rw (← l, ← r) w in
         (rw (own, ← v .own-end), v)
 
 -- The items in order
 
-items-length : (rule : Rule) (k : ℕ) → length (itemsIn rule k) ≡ k
-unfolding itemsIn
-items-length rule zero = refl
-items-length rule (suc k) = rw length-append (omega (arith, items-length rule k))
+abbrev codeStart : CodeEnd
+codeStart = record { at = 0; count = 0 }
 
-abbrev start : End
-start = record { at = 0; count = 0 }
+pub record EmittedTo (rule : Rule) (before : List ℕ) (k : ℕ) (out : List ℕ) (e : Emission) : Type 0 where
+  pub follows : Waits e (stackOf (itemsIn rule k))
+  pub wrote : CodeWrote before codeStart (stackCode (stackOf (itemsIn rule k))) out (e .end)
 
-pub record Stands (rule : Rule) (before : List ℕ) (k : ℕ) (out : List ℕ) (e : Emission) : Type 0 where
-  pub follows : Follows e (stackOf (itemsIn rule k))
-  pub wrote : Wrote before start (stackCode (stackOf (itemsIn rule k))) out (e .end)
-
-pub stands-first : (rule : Rule) (out bits : List ℕ) → length bits ≡ limits .items → Stands rule out 0 out (record { end = start; bits = bits; depth = 0 })
+pub stands-first : (rule : Rule) (out bits : List ℕ) → length bits ≡ limits .items → EmittedTo rule out 0 out (record { end = codeStart; bits = bits; depth = 0 })
 unfolding itemsIn stackFrom stackCode bytesOfAll
 stands-first rule out bits h =
     let f = follows-none bits h in
     record { follows = f; wrote = record { own-bytes = nothing out 0 .0; own-end = f .end } }
 
 -- the buffer stays as long as it is
-pub stands-length : (rule : Rule) (before : List ℕ) (k : ℕ) (out : List ℕ) (e : Emission) → Stands rule before k out e → length out ≡ length before
+pub stands-length : (rule : Rule) (before : List ℕ) (k : ℕ) (out : List ℕ) (e : Emission) → EmittedTo rule before k out e → length out ≡ length before
 stands-length rule before k out e s = ap length (s .wrote .own-bytes) ∙ written-length before 0 _
 
-module _ (rule : Rule) (n : ℕ) (before : List ℕ) (emits : Emits rule n before) where
-  module _ (k : ℕ) (out : List ℕ) (e : Emission) (s : Stands rule before k out e) (inside : k < n) where
+module _ (rule : Rule) (n : ℕ) (before : List ℕ) (emits : CanEmit rule n before) where
+  module _ (k : ℕ) (out : List ℕ) (e : Emission) (s : EmittedTo rule before k out e) (inside : k < n) where
     -- the formulas that wait, and the item
     abbrev st : List Formula
     st = stackOf (itemsIn rule k)
@@ -96,12 +92,12 @@ module _ (rule : Rule) (n : ℕ) (before : List ℕ) (emits : Emits rule n befor
     grown : stackCode (stackOf (itemsIn rule k ++ item ∷ [])) ≡ stackCode st ++ ownCode e item
     grown = rw stack-more (own-code e st item (s .follows) (emits .ready k inside .operands))
 
-    room : Room before start (stackCode st ++ ownCode e item)
+    room : CodeRoom before codeStart (stackCode st ++ ownCode e item)
     room =
         let ready = emits .ready k inside in
         rw (← grown) (record { bytes = omega (arith, ready .bytes, emits .room); numbers = omega (arith, ready .instructions) })
 
-    pub stands-next : (i : Item) → i ≡ item → Next out e i
+    pub stands-next : (i : Item) → i ≡ item → CanEmitNext out e i
     stands-next i own =
         let ready = emits .ready k inside in
         let depth = s .follows .depth in
@@ -112,10 +108,10 @@ module _ (rule : Rule) (n : ℕ) (before : List ℕ) (emits : Emits rule n befor
           operands = omega (arith, ready .operands);
           depth = omega (arith, ready .values, items-length rule k);
           above = omega (arith, ready .values, items-length rule k);
-          room = room-rest before start (stackCode st) (ownCode e item) room out (e .end) (s .wrote);
+          room = room-rest before codeStart (stackCode st) (ownCode e item) room out (e .end) (s .wrote);
         })
 
-    pub stands-more : (i : Item) → i ≡ item → (next : Emission) (after : List ℕ) → (next ≡ nextOf e i) × Wrote out (e .end) (ownCode e i) after (next .end) → Stands rule before (k + 1) after next
+    pub stands-more : (i : Item) → i ≡ item → (next : Emission) (after : List ℕ) → (next ≡ nextOf e i) × CodeWrote out (e .end) (ownCode e i) after (next .end) → EmittedTo rule before (k + 1) after next
     unfolding itemsIn
     stands-more i own next after done =
         let (is, w) = rw own at done in
@@ -125,19 +121,19 @@ module _ (rule : Rule) (n : ℕ) (before : List ℕ) (emits : Emits rule n befor
         rw add-one
         (record {
           follows = rw (stack-more, is) follows;
-          wrote = rw grown (wrote-more before start (stackCode st) (ownCode e item) room out (e .end) (s .wrote) after (next .end) w);
+          wrote = rw grown (wrote-more before codeStart (stackCode st) (ownCode e item) room out (e .end) (s .wrote) after (next .end) w);
         })
 
   -- all the code has room
-  whole : length (bytesOfAll bytesOf (stackCode (stackOf (itemsIn rule n)))) ≤ length before
+  whole : length (bytesOfAll bytesOfInstruction (stackCode (stackOf (itemsIn rule n)))) ≤ length before
   unfolding itemsIn stackFrom stackCode bytesOfAll
   whole = go n refl
     where
-      go : (m : ℕ) → m ≡ n → length (bytesOfAll bytesOf (stackCode (stackOf (itemsIn rule m)))) ≤ length before
+      go : (m : ℕ) → m ≡ n → length (bytesOfAll bytesOfInstruction (stackCode (stackOf (itemsIn rule m)))) ≤ length before
       go zero e = omega arith
       go (suc m) e = omega (arith, emits .ready m (omega arith) .bytes, emits .room)
 
-  pub stands-all : (k : ℕ) (out : List ℕ) (e : Emission) → Stands rule before k out e → k ≡ n → let code = bytesOfAll bytesOf (stackCode (stackOf (itemsIn rule n))) in (e .end .at ≡ length code) × (out ≡ over code before)
+  pub stands-all : (k : ℕ) (out : List ℕ) (e : Emission) → EmittedTo rule before k out e → k ≡ n → let code = bytesOfAll bytesOfInstruction (stackCode (stackOf (itemsIn rule n))) in (e .end .at ≡ length code) × (out ≡ over code before)
   unfolding endAfter written
   stands-all k out e s all =
       let w = rw all at (s .wrote) in

@@ -2,10 +2,10 @@
 pub mod Sizes
 pub mod Accepted
 pub mod Wires
-pub mod Writing
+pub mod Behind
 pub mod Waiting
 pub mod InOrder
-pub mod Emitting
+pub mod Answered
 pub mod Demand
 pub mod Samples
 pub mod Unique

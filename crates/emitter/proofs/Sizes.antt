@@ -6,24 +6,24 @@ use Prim.Native.Nat.{ℕ, zero, suc, _+_, _*_, _≤_, _<_}
 use native.Mathlib.Omega.{arith}
 use lib.ListN.{length, length-append}
 use Rattle.rules.specs.Formula.{Formula}
-use Rattle.rules.specs.Good.{postfix, postfixes}
-use Rattle.rules.specs.Items.{rowOf}
+use Rattle.rules.specs.Items.{postfix, rowOfItem}
+use Rattle.rules.specs.Inner.Good.{postfixes}
 use Rattle.rules.specs.Loading.{Items, timedIn, lowerIn}
 use Rattle.rules.specs.declared.item.Item.{Item}
 use Rattle.rules.proofs.Stack.{timed-append, lower-append}
-use Rattle.sequencer.specs.Code.{Code}
-use Rattle.sequencer.specs.Loading.{reachesIn, distanceIn}
-use Rattle.sequencer.proofs.Counting.{reaches-append, distance-append}
-use Rattle.emitter.specs.Emission.{stackCode}
+use Rattle.code.specs.Code.{Code}
+use Rattle.code.specs.Loading.{reachesIn, distanceIn}
+use Rattle.code.proofs.Counting.{reaches-append, distance-append}
+use Rattle.emitter.specs.Inner.Emission.{stackCode}
 use Rattle.emitter.specs.Translation.{laterBy, timed, itemCode, behind, translate}
 
 -- the operands' bits stand earlier, if the item has any
 abbrev pub Earlier : Item → ℕ → ℕ → ℕ → Type 0
-Earlier item left right n = 1 ≤ rowOf item .operands → (left < n) × (right < n)
+Earlier item left right n = 1 ≤ rowOfItem item .operands → (left < n) × (right < n)
 
 -- The instructions of an item
 pub item-size : (n : ℕ) (i : Item) (left right : ℕ) → let own = itemCode n i left right in
-    (1 ≤ length own) × (length own ≤ 3 + 2 * rowOf i .timed) × (reachesIn own ≡ rowOf i .timed) × (distanceIn own ≡ rowOf i .lower)
+    (1 ≤ length own) × (length own ≤ 3 + 2 * rowOfItem i .timed) × (reachesIn own ≡ rowOfItem i .timed) × (distanceIn own ≡ rowOfItem i .lower)
 unfolding itemCode timed laterBy reachesIn distanceIn
 item-size n Item.True left right = omega arith
 item-size n Item.False left right = omega arith

@@ -1,29 +1,25 @@
 -- Emitting item by item. The code so far is that of the formulas that wait, and their bits are stacked in the array; so an item reads its operands' bits there, its own code
 -- makes the code of the new stack, and its last bit takes their place. The items of a loaded rule are those that its columns were made of.
 use mathlib.Core.Path.{_≡_, refl, sym, ap, _∙_}
-use mathlib.Core.List.{List, [], _∷_, _++_, map}
+use mathlib.Core.List.{List, [], _∷_, _++_}
 use Prim.Native.Nat.{ℕ, zero, suc, _+_, _-_, _≤_, _<_}
 use native.Mathlib.Omega.{arith}
 use borrow.Author.Tests.{le-ltb}
-use lib.ListN.{length, getD, take, drop, length-set}
-use lib.Seq.{take-suc, take-length}
+use lib.ListN.{length, getD, drop, length-set}
 use Rattle.reading.specs.InTurn.{bytesOfAll}
-use Rattle.reading.specs.Limits.{limits}
-use Rattle.reading.proofs.Padded.{getD-padded}
+use Rattle.ground.specs.Limits.{limits}
 use Rattle.rules.specs.Formula.{Formula}
-use Rattle.rules.specs.Items.{rowOf, itemOf, apply}
-use Rattle.rules.specs.Loading.{Items, accepted, column, ruleOf}
-use Rattle.rules.specs.Walking.{Stacked}
+use Rattle.rules.specs.Items.{rowOfItem, apply}
+use Rattle.rules.specs.Inner.Walk.{Stacked}
 use Rattle.rules.specs.declared.item.Item.{Item}
-use Rattle.rules.specs.declared.item.Row.{Row}
 use Rattle.rules.proofs.Stack.{applied}
 use Rattle.rules.proofs.Walking.{stacked-drop, stacked-push}
-use Rattle.emitter.specs.Emission.{stackCode, fromTop, ownCode, nextOf, itemIn, itemsIn}
+use Rattle.emitter.specs.Inner.Emission.{stackCode, fromTop, ownCode, nextOf}
 use Rattle.emitter.specs.Translation.{itemCode, last, behind, afterTwo, translate}
-use Rattle.emitter.specs.Writing.{endAfter}
-use Rattle.emitter.proofs.Writing.{end-append}
+use Rattle.emitter.specs.Inner.Write.{endAfter}
+use Rattle.emitter.proofs.Behind.{end-append}
 use Rattle.emitter.specs.declared.emission.Emission.{Emission}
-use Rattle.emitter.specs.declared.write.End.{End}
+use Rattle.emitter.specs.declared.write.CodeEnd.{CodeEnd}
 
 -- The numbers of the bits of the formulas that wait, the last one first
 pub bitsOf : List Formula → List ℕ
@@ -31,14 +27,14 @@ bitsOf [] = []
 bitsOf (f ∷ st) = last (stackCode (f ∷ st)) ∷ bitsOf st
 
 -- Where emitting stands for the formulas that wait
-pub record Follows (e : Emission) (st : List Formula) : Type 0 where
+pub record Waits (e : Emission) (st : List Formula) : Type 0 where
   pub end : e .end ≡ endAfter (record { at = 0; count = 0 }) (stackCode st)
   pub bits : Stacked (e .bits) (bitsOf st)
   pub depth : e .depth ≡ length st
   pub room : length (e .bits) ≡ limits .items
 
 -- emitting before the first item
-pub follows-none : (bits : List ℕ) → length bits ≡ limits .items → Follows (record { end = record { at = 0; count = 0 }; bits = bits; depth = 0 }) []
+pub follows-none : (bits : List ℕ) → length bits ≡ limits .items → Waits (record { end = record { at = 0; count = 0 }; bits = bits; depth = 0 }) []
 unfolding endAfter stackCode bitsOf Stacked bytesOfAll
 follows-none bits h = record { end = refl; bits = tt; depth = refl; room = h }
 
@@ -55,7 +51,7 @@ bits-drop (suc n) [] = refl
 bits-drop (suc n) (f ∷ st) = bits-drop n st
 
 -- the number of instructions
-count-of : (end : End) (st : List Formula) → end ≡ endAfter (record { at = 0; count = 0 }) (stackCode st) → end .count ≡ length (stackCode st)
+count-of : (end : CodeEnd) (st : List Formula) → end ≡ endAfter (record { at = 0; count = 0 }) (stackCode st) → end .count ≡ length (stackCode st)
 unfolding endAfter
 count-of end st h = omega (arith, ap (λ x. x .count) h)
 
@@ -68,12 +64,12 @@ bit-below e n st x d g =
     simp (le-ltb, place) g
 
 -- the code of an item whose operands, one or two, are on top
-behind-one : (e : Emission) (f : Formula) (st : List Formula) (i : Item) → Follows e (f ∷ st)
+behind-one : (e : Emission) (f : Formula) (st : List Formula) (i : Item) → Waits e (f ∷ st)
     → behind (stackCode (f ∷ st)) i (fromTop (e .bits) (e .depth) 2) (last (stackCode (f ∷ st))) ≡ stackCode (f ∷ st) ++ ownCode e i
 unfolding bitsOf Stacked ownCode
 behind-one e f st i s = cc (count-of (e .end) (f ∷ st) (s .end), bit-below e 1 st _ (omega (arith, s .depth)) (s .bits .0))
 
-behind-two : (e : Emission) (g f : Formula) (st : List Formula) (i : Item) → Follows e (g ∷ f ∷ st)
+behind-two : (e : Emission) (g f : Formula) (st : List Formula) (i : Item) → Waits e (g ∷ f ∷ st)
     → afterTwo (stackCode (f ∷ st)) (stackCode (g ∷ f ∷ st)) i ≡ stackCode (g ∷ f ∷ st) ++ ownCode e i
 unfolding bitsOf Stacked
 behind-two e g f st i s =
@@ -81,7 +77,7 @@ behind-two e g f st i s =
     rw left at (behind-one e g (f ∷ st) i s)
 
 -- An item's own code behind the code of the stack is the code of the new stack
-pub own-code : (e : Emission) (st : List Formula) (i : Item) → Follows e st → rowOf i .operands ≤ length st → stackCode (apply i st) ≡ stackCode st ++ ownCode e i
+pub own-code : (e : Emission) (st : List Formula) (i : Item) → Waits e st → rowOfItem i .operands ≤ length st → stackCode (apply i st) ≡ stackCode st ++ ownCode e i
 unfolding apply stackCode translate ownCode itemCode
 own-code e st Item.True s h = refl
 own-code e st Item.False s h = cc (count-of (e .end) st (s .end))
@@ -106,11 +102,11 @@ own-code e (g ∷ []) (Item.Release a b) s h = absurd (omega arith)
 own-code e (g ∷ f ∷ st) (Item.Release a b) s h = behind-two e g f st (Item.Release a b) s
 
 -- Emitting with one item more
-pub follows-more : (e : Emission) (st : List Formula) (i : Item) → Follows e st → rowOf i .operands ≤ length st → length st - rowOf i .operands < limits .items → Follows (nextOf e i) (apply i st)
+pub follows-more : (e : Emission) (st : List Formula) (i : Item) → Waits e st → rowOfItem i .operands ≤ length st → length st - rowOfItem i .operands < limits .items → Waits (nextOf e i) (apply i st)
 unfolding nextOf bitsOf
 follows-more e st i s h room =
     let a = applied i st h in
-    let n = rowOf i .operands in
+    let n = rowOfItem i .operands in
     let end : endAfter (e .end) (ownCode e i) ≡ endAfter (record { at = 0; count = 0 }) (stackCode (apply i st)) =
     ap (λ x. endAfter x (ownCode e i)) (s .end) ∙ end-append _ (stackCode st) (ownCode e i) ∙ ap (endAfter _) (sym (own-code e st i s h)) in
     let top : endAfter (e .end) (ownCode e i) .count - 1 ≡ last (stackCode (a .value ∷ a .rest)) =
@@ -123,42 +119,3 @@ follows-more e st i s h room =
       depth = rw (a .gives) (omega (arith, s .depth, a .left));
       room = rw length-set (s .room);
     }
-
--- an item's numbers give the item back
-row-back : (i : Item) → itemOf (rowOf i .code) (rowOf i .flag) (rowOf i .lower) (rowOf i .upper) ≡ i
-unfolding itemOf
-row-back Item.True = refl
-row-back Item.False = refl
-row-back (Item.Flag k) = refl
-row-back Item.Not = refl
-row-back Item.And = refl
-row-back Item.Or = refl
-row-back (Item.Until a b) = refl
-row-back (Item.Release a b) = refl
-row-back (Item.Eventually a b) = refl
-row-back (Item.Globally a b) = refl
-
--- a column's element is its item's number
-map-at : (g : Item → ℕ) (is : Items) (k : ℕ) → k < length is → getD (map g is) k 0 ≡ g (getD is k Item.True)
-map-at g [] k h = absurd (omega arith)
-map-at g (i ∷ is) zero h = refl
-map-at g (i ∷ is) (suc k) h = map-at g is k (omega arith)
-
-column-at : (f : Row → ℕ) (is : Items) (k : ℕ) → k < length is → getD (column f is) k 0 ≡ f (rowOf (getD is k Item.True))
-column-at f is k h = getD-padded (limits .items) (map (λ i. f (rowOf i)) is) k ∙ map-at (λ i. f (rowOf i)) is k h
-
--- The items of a rule that was loaded: one, the first so many, and all of them
-module _ (is : Items) (f : Formula) where
-  pub item-back : (k : ℕ) → k < length is → itemIn (ruleOf (accepted is f)) k ≡ getD is k Item.True
-  unfolding itemIn ruleOf
-  item-back k h =
-      rw (column-at (λ r. r .code) is k h, column-at (λ r. r .flag) is k h, column-at (λ r. r .lower) is k h, column-at (λ r. r .upper) is k h)
-      (row-back (getD is k Item.True))
-
-  pub items-prefix : (k : ℕ) → k ≤ length is → itemsIn (ruleOf (accepted is f)) k ≡ take k is
-  unfolding itemsIn
-  items-prefix zero h = refl
-  items-prefix (suc k) h = rw (items-prefix k (omega arith), item-back k (omega arith), take-suc is k Item.True (omega arith))
-
-  pub items-back : itemsIn (ruleOf (accepted is f)) (length is) ≡ is
-  items-back = items-prefix (length is) (omega arith) ∙ take-length is

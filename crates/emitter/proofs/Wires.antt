@@ -10,17 +10,18 @@ use native.Mathlib.Nat.{zero-add}
 use native.Mathlib.Omega.{arith}
 use lib.ListN.{length, getD, drop, length-append, drop-of-length-le, List·getD-append}
 use lib.Seq.{getD-append-seam, getD-at}
-use Rattle.reading.specs.Each.{Each}
-use Rattle.reading.specs.Frames.{Clip, hasFlag}
-use Rattle.reading.proofs.Each.{each-parted}
-use Rattle.reading.proofs.Choices.{bool-false}
+use Rattle.ground.specs.Each.{Each}
+use Rattle.ground.specs.Frames.{Clip, hasFlag}
+use Rattle.ground.proofs.Each.{each-parted}
+use Rattle.ground.proofs.Choices.{bool-false}
 use Rattle.rules.specs.Formula.{Formula}
-use Rattle.rules.specs.Good.{InRange, postfix}
+use Rattle.rules.specs.Accepted.{InRange}
+use Rattle.rules.specs.Items.{postfix}
 use Rattle.rules.specs.Meaning.{within, reaches, holds}
 use Rattle.rules.specs.declared.item.Item.{Item}
 use Rattle.rules.proofs.Agreement.{Found, found}
 use Rattle.sequencer.specs.Bits.{Wire, Counter, none, count, isOn, counter, later, wire, wireOf, wiresFrom, output, Says}
-use Rattle.sequencer.specs.Code.{One, Flag, Nand, Reach, Later, Code}
+use Rattle.code.specs.Code.{One, Flag, Nand, Reach, Later, Code}
 use Rattle.sequencer.proofs.Counters.{counter-says, later-ago, later-none}
 use Rattle.sequencer.proofs.Wires.{wires-append, wires-length, wires-old}
 use Rattle.emitter.proofs.Sizes.{Earlier, grown}
@@ -176,21 +177,21 @@ module _ (ws : List Wire) (left right : ℕ) where
 
 -- Code so far, with more behind it
 
-abbrev bit : Code → ℕ → Wire
-bit c i = wire (wiresFrom [] c) i
+abbrev wireBit : Code → ℕ → Wire
+wireBit c i = wire (wiresFrom [] c) i
 
 bits-length : (c : Code) → length (wiresFrom [] c) ≡ length c
 bits-length c = wires-length [] c ∙ zero-add (length c)
 
 module _ (c : Code) (item : Item) (left right : ℕ) where
   last-item : InRange item → Earlier item left right (length c)
-      → bit (behind c item left right) (last (behind c item left right)) ≡ means item (bit c left) (bit c right)
+      → wireBit (behind c item left right) (last (behind c item left right)) ≡ means item (wireBit c left) (wireBit c right)
   last-item g h =
       rw (bits-length c, ← wires-append, bits-length) at
       (final-item (wiresFrom [] c) left right item g (rw bits-length h))
 
 -- a formula's code keeps the bits of the code before it
-kept : (c : Code) (f : Formula) (i : ℕ) → i < length c → bit (translate c f) i ≡ bit c i
+kept : (c : Code) (f : Formula) (i : ℕ) → i < length c → wireBit (translate c f) i ≡ wireBit c i
 kept c f i h =
     let g = grown c f in
     rw (g .whole, wires-append) (wires-old (wiresFrom [] c) (g .added) i (rw bits-length h))
@@ -199,18 +200,18 @@ kept c f i h =
 
 -- what `last-wire` says of a formula
 abbrev LastHolds : Formula → Type 0
-LastHolds f = Each InRange (postfix f) → (c : Code) → bit (translate c f) (last (translate c f)) ≡ holds f
+LastHolds f = Each InRange (postfix f) → (c : Code) → wireBit (translate c f) (last (translate c f)) ≡ holds f
 
 last-one : (f : Formula) (item : Item) → LastHolds f → Each InRange (postfix f ++ item ∷ []) → (c : Code)
-    → let d = translate c f in bit (afterOne d item) (last (afterOne d item)) ≡ means item (bit d 0) (holds f)
+    → let d = translate c f in wireBit (afterOne d item) (last (afterOne d item)) ≡ means item (wireBit d 0) (holds f)
 last-one f item p h c =
     let d = translate c f in
     let s = each-parted InRange (postfix f) (item ∷ []) h in
     let m = grown c f in
-    last-item d item 0 (last d) (s .1 .0) (λ _. (omega arith, omega arith)) ∙ ap (means item (bit d 0)) (p (s .0) c)
+    last-item d item 0 (last d) (s .1 .0) (λ _. (omega arith, omega arith)) ∙ ap (means item (wireBit d 0)) (p (s .0) c)
 
 last-two : (f g : Formula) (item : Item) → LastHolds f → LastHolds g → Each InRange (postfix f ++ (postfix g ++ item ∷ [])) → (c : Code)
-    → let d = translate c f in let e = translate d g in bit (afterTwo d e item) (last (afterTwo d e item)) ≡ means item (holds f) (holds g)
+    → let d = translate c f in let e = translate d g in wireBit (afterTwo d e item) (last (afterTwo d e item)) ≡ means item (holds f) (holds g)
 last-two f g item p q h c =
     let d = translate c f in
     let e = translate d g in

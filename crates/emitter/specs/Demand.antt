@@ -4,17 +4,17 @@ use mathlib.Core.Path.{_≡_}
 use mathlib.Core.List.{List}
 use Prim.Native.Nat.{ℕ, _≤_, _<_}
 use lib.ListN.{length, getD, take, drop}
-use Rattle.reading.specs.Buffers.{AllBytes}
-use Rattle.reading.specs.Frames.{Clip}
-use Rattle.reading.specs.Limits.{limits}
+use Rattle.ground.specs.Buffers.{AllBytes}
+use Rattle.ground.specs.Frames.{Clip}
+use Rattle.ground.specs.Limits.{limits}
 use Rattle.rules.specs.Formula.{Formula}
 use Rattle.rules.specs.Loading.{Items, accepted, readRule}
 use Rattle.rules.specs.Meaning.{Holds}
-use Rattle.sequencer.specs.Loading.{readCode, codeOf, loadedOf}
+use Rattle.code.specs.Loading.{readCode, codeOf, loadedCodeOf}
 use Rattle.sequencer.specs.Running.{ranOf, bufferAfter}
-use Rattle.sequencer.specs.declared.load.Loaded.{Loaded}
+use Rattle.code.specs.declared.load.LoadedCode.{LoadedCode}
 use Rattle.sequencer.specs.declared.run.Ran.{Ran}
-use Rattle.emitter.specs.Emitting.{emittedOf, outAfter}
+use Rattle.emitter.specs.Emit.{emittedOf, outAfter}
 use Rattle.emitter.specs.Translation.{codeBytes}
 use Rattle.emitter.specs.declared.emit.Emitted.{Emitted}
 
@@ -37,7 +37,7 @@ pub record Verdicts (f : Formula) (clip : Clip) (before after : List ℕ) : Type
 
 -- Code that meets the demand for a rule: it is accepted, and each run of it is done and leaves the verdicts
 pub record Meets (f : Formula) (code : List ℕ) : Type 0 where
-  pub loads : (n : ℕ) × (loadedOf (readCode code) ≡ Loaded.Accepted n)
+  pub loads : (n : ℕ) × (loadedCodeOf (readCode code) ≡ LoadedCode.Accepted n)
   pub judges : (clip before : List ℕ) → 1 ≤ length clip → length clip ≤ limits .frames → length clip ≤ length before → (answer : Ran) (after : List ℕ)
       → RunSays code clip before answer after → (answer ≡ Ran.Done) × Verdicts f clip before after
 

@@ -1,7 +1,6 @@
 -- What the contracts of `emitter` cite.
 pub mod Translation
-pub mod Emitting
+pub mod Emit
 pub mod Demand
 pub mod Samples
-pub mod Writing
-pub mod Emission
+pub mod Inner

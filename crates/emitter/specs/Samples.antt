@@ -4,13 +4,13 @@ use mathlib.Core.Path.{_≡_}
 use mathlib.Core.List.{List, [], _∷_}
 use Prim.Native.Nat.{ℕ}
 use lib.ListN.{length, replicate}
-use Rattle.reading.specs.Frames.{Clip}
-use Rattle.reading.specs.declared.refusal.Refusal.{Refusal}
+use Rattle.ground.specs.Frames.{Clip}
+use Rattle.ground.specs.declared.refusal.Refusal.{Refusal}
 use Rattle.rules.specs.Loading.{readRule}
-use Rattle.sequencer.specs.Loading.{readCode, codeOf}
+use Rattle.code.specs.Loading.{readCode, codeOf}
 use Rattle.sequencer.specs.Running.{ranOf, bufferAfter}
 use Rattle.sequencer.specs.declared.run.Ran.{Ran}
-use Rattle.emitter.specs.Emitting.{bytesFor, emittedOf, outAfter}
+use Rattle.emitter.specs.Emit.{bytesFor, emittedOf, outAfter}
 use Rattle.emitter.specs.declared.emit.Emitted.{Emitted}
 
 -- A row: a rule and its code; a rule, a buffer, the answer and what the buffer then holds; or a rule, a clip and what a run of its code writes for it
@@ -20,11 +20,11 @@ pub data Sample : Type 0 where
   judges : List ℕ → Clip → List ℕ → Sample
 
 -- A row is right by the definitions that the contracts cite
-abbrev pub Right : Sample → Type 0
-Right (emits rule code) = bytesFor (readRule rule) ≡ code
-Right (answers rule out answer after) =
+abbrev pub EmittedRight : Sample → Type 0
+EmittedRight (emits rule code) = bytesFor (readRule rule) ≡ code
+EmittedRight (answers rule out answer after) =
     (emittedOf (readRule rule) out ≡ answer) × (outAfter answer (readRule rule) out ≡ after)
-Right (judges rule clip verdicts) =
+EmittedRight (judges rule clip verdicts) =
     let read = readCode (bytesFor (readRule rule)) in
     let out = replicate {A = ℕ} (length clip) 0xff in
     (ranOf read clip out ≡ Ran.Done) × (bufferAfter Ran.Done (codeOf read) clip out ≡ verdicts)

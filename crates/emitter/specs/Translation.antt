@@ -7,7 +7,7 @@ use lib.ListN.{length}
 use Rattle.reading.specs.InTurn.{bytesOfAll}
 use Rattle.rules.specs.Formula.{Formula}
 use Rattle.rules.specs.declared.item.Item.{Item}
-use Rattle.sequencer.specs.Code.{Instruction, One, Flag, Nand, Reach, Later, Code, bytesOf}
+use Rattle.code.specs.Code.{Instruction, One, Flag, Nand, Reach, Later, Code, bytesOfInstruction}
 
 -- N: NAND of a bit with itself
 abbrev pub N : ℕ → Instruction
@@ -78,4 +78,4 @@ codeFor f = translate [] f
 
 -- The same as bytes, every number in its shortest form
 abbrev pub codeBytes : Formula → List ℕ
-codeBytes f = bytesOfAll bytesOf (codeFor f)
+codeBytes f = bytesOfAll bytesOfInstruction (codeFor f)

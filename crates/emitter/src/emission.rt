@@ -2,16 +2,17 @@
 ghost use mathlib.Core.Path.{_≡_};
 ghost use Prim.Native.Nat.{_≤_};
 ghost use lib.ListN.{length};
-ghost use Rattle.reading.specs.Buffers.{over};
+ghost use Rattle.ground.specs.Buffers.{over};
 ghost use Rattle.reading.specs.InTurn.{bytesOfAll};
-ghost use Rattle.reading.specs.Limits.{limits};
+ghost use Rattle.ground.specs.Limits.{limits};
 ghost use Rattle.rules.specs.Loading.{stackOf};
-ghost use Rattle.sequencer.specs.Code.{bytesOf};
-ghost use Rattle.emitter.specs.Writing.{Wrote};
-ghost use Rattle.emitter.specs.Emission.{stackCode, fromTop, ownCode, nextOf, Next, itemsIn, Emits};
+ghost use Rattle.code.specs.Code.{bytesOfInstruction};
+ghost use Rattle.emitter.specs.Inner.Write.{CodeWrote};
+ghost use Rattle.emitter.specs.Inner.Emission.{stackCode, fromTop, ownCode, nextOf, CanEmitNext, CanEmit};
+ghost use Rattle.rules.specs.Loaded.{itemsIn};
 use crate::item::emit_item;
-use crate::write::End;
-use reading::limits::MOST_ITEMS;
+use crate::write::CodeEnd;
+use ground::limits::MOST_ITEMS;
 use rules::item::Item;
 use rules::item::item_of;
 use rules::item::row_of;
@@ -19,7 +20,7 @@ use rules::load::Rule;
 
 // Where emitting stands: the end of the code so far, and the numbers of the bits of the values that wait for an operator.
 pub(crate) struct Emission {
-    pub end: End,
+    pub end: CodeEnd,
     pub bits: [u16; MOST_ITEMS],
     pub depth: usize,
 }
@@ -37,8 +38,8 @@ fn from_top(bits: [u16; MOST_ITEMS], depth: usize, below: usize) -> u16
 
 // Emits one item more, whose operands are the last values.
 fn emit_next(out: &mut [u8], emission: Emission, item: Item) -> Emission
-    requires { ⌜ Next (now out) emission item ⌝ }
-    ensures { λ r. ⌜ (r ≡ nextOf emission item) × Wrote (now (out .entry)) (emission .end) (ownCode emission item) (now (out .exit)) (r .end) ⌝ }
+    requires { ⌜ CanEmitNext (now out) emission item ⌝ }
+    ensures { λ r. ⌜ (r ≡ nextOf emission item) × CodeWrote (now (out .entry)) (emission .end) (ownCode emission item) (now (out .exit)) (r .end) ⌝ }
 {
     let mut bits = emission.bits;
     let depth = emission.depth;
@@ -56,11 +57,11 @@ fn emit_next(out: &mut [u8], emission: Emission, item: Item) -> Emission
 
 // Emits the items of a rule in turn, from the buffer's first byte on, and answers the length of the code.
 pub(crate) fn emit_items(rule: Rule, items: usize, out: &mut [u8]) -> usize
-    requires { ⌜ Emits rule items (now out) ⌝ }
-    ensures { λ r. ⌜ (r ≡ length (bytesOfAll bytesOf (stackCode (stackOf (itemsIn rule items))))) × (now (out .exit) ≡ over (bytesOfAll bytesOf (stackCode (stackOf (itemsIn rule items)))) (now (out .entry))) ⌝ }
+    requires { ⌜ CanEmit rule items (now out) ⌝ }
+    ensures { λ r. ⌜ (r ≡ length (bytesOfAll bytesOfInstruction (stackCode (stackOf (itemsIn rule items))))) × (now (out .exit) ≡ over (bytesOfAll bytesOfInstruction (stackCode (stackOf (itemsIn rule items)))) (now (out .entry))) ⌝ }
 {
     let mut emission = Emission {
-        end: End { at: 0, count: 0 },
+        end: CodeEnd { at: 0, count: 0 },
         bits: [0; MOST_ITEMS],
         depth: 0,
     };

@@ -3,10 +3,11 @@ ghost use mathlib.Core.List.{List};
 ghost use mathlib.Core.Path.{_≡_};
 ghost use Prim.Native.Nat.{ℕ};
 ghost use Rattle.rules.specs.Loading.{readRule};
-ghost use Rattle.emitter.specs.Emitting.{mostCodeBytes, Loads, emittedOf, outAfter};
+ghost use Rattle.emitter.specs.Emit.{mostCodeBytes, emittedOf, outAfter};
+ghost use Rattle.rules.specs.Loaded.{LoadedFrom};
 use crate::emission::emit_items;
 use bytes::copy;
-use reading::refusal::Refusal;
+use ground::refusal::Refusal;
 use rules::load::Loaded;
 use rules::load::Rule;
 use rules::load::decode;
@@ -29,8 +30,8 @@ pub fn most_code() -> usize
 
 // Emits the code of a rule that was loaded, as `emit` does for its bytes; a rule that was refused gives its refusal.
 pub fn emit_rule(rule: Rule, out: &mut [u8]) -> Emitted
-    requires { ⌜ ((bytes : List ℕ) × Loads bytes rule) ⌝ }
-    ensures { λ r. ⌜ ((bytes : List ℕ) → Loads bytes rule → (r ≡ emittedOf (readRule bytes) (now (out .entry))) × (now (out .exit) ≡ outAfter r (readRule bytes) (now (out .entry)))) ⌝ }
+    requires { ⌜ ((bytes : List ℕ) × LoadedFrom bytes rule) ⌝ }
+    ensures { λ r. ⌜ ((bytes : List ℕ) → LoadedFrom bytes rule → (r ≡ emittedOf (readRule bytes) (now (out .entry))) × (now (out .exit) ≡ outAfter r (readRule bytes) (now (out .entry)))) ⌝ }
 {
     let loaded = rule.loaded;
     match loaded {

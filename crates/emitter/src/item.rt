@@ -1,10 +1,10 @@
 // The instructions of each item, by the numbers of its operands' bits: document 01's table of emitted code.
 ghost use Prim.Native.Nat.{_≤_};
-ghost use Rattle.rules.specs.Items.{rowOf};
+ghost use Rattle.rules.specs.Items.{rowOfItem};
 ghost use Rattle.rules.specs.declared.item.Item.{Item};
 ghost use Rattle.emitter.specs.Translation.{thenN, timed, itemCode};
-ghost use Rattle.emitter.specs.Writing.{Room, Wrote};
-use crate::write::End;
+ghost use Rattle.emitter.specs.Inner.Write.{CodeRoom, CodeWrote};
+use crate::write::CodeEnd;
 use crate::write::flag;
 use crate::write::invert;
 use crate::write::nand;
@@ -13,27 +13,27 @@ use crate::write::timed;
 use rules::item::Item;
 
 // False: ONE, N.
-fn emit_false(out: &mut [u8], end: End) -> End
-    requires { ⌜ Room (now out) end (itemCode (end .count) Item.False 0 0) ⌝ }
-    ensures { λ r. ⌜ Wrote (now (out .entry)) end (itemCode (end .count) Item.False 0 0) (now (out .exit)) r ⌝ }
+fn emit_false(out: &mut [u8], end: CodeEnd) -> CodeEnd
+    requires { ⌜ CodeRoom (now out) end (itemCode (end .count) Item.False 0 0) ⌝ }
+    ensures { λ r. ⌜ CodeWrote (now (out .entry)) end (itemCode (end .count) Item.False 0 0) (now (out .exit)) r ⌝ }
 {
     let e = one(&mut *out, end);
     invert(out, e)
 }
 
 // And: NAND, N.
-fn emit_and(out: &mut [u8], end: End, left: u16, right: u16) -> End
-    requires { ⌜ Room (now out) end (itemCode (end .count) Item.And left right) ⌝ }
-    ensures { λ r. ⌜ Wrote (now (out .entry)) end (itemCode (end .count) Item.And left right) (now (out .exit)) r ⌝ }
+fn emit_and(out: &mut [u8], end: CodeEnd, left: u16, right: u16) -> CodeEnd
+    requires { ⌜ CodeRoom (now out) end (itemCode (end .count) Item.And left right) ⌝ }
+    ensures { λ r. ⌜ CodeWrote (now (out .entry)) end (itemCode (end .count) Item.And left right) (now (out .exit)) r ⌝ }
 {
     let e = nand(&mut *out, end, left, right);
     invert(out, e)
 }
 
 // Or: N left, N right, NAND of the two.
-fn emit_or(out: &mut [u8], end: End, left: u16, right: u16) -> End
-    requires { ⌜ Room (now out) end (itemCode (end .count) Item.Or left right) ⌝ }
-    ensures { λ r. ⌜ Wrote (now (out .entry)) end (itemCode (end .count) Item.Or left right) (now (out .exit)) r ⌝ }
+fn emit_or(out: &mut [u8], end: CodeEnd, left: u16, right: u16) -> CodeEnd
+    requires { ⌜ CodeRoom (now out) end (itemCode (end .count) Item.Or left right) ⌝ }
+    ensures { λ r. ⌜ CodeWrote (now (out .entry)) end (itemCode (end .count) Item.Or left right) (now (out .exit)) r ⌝ }
 {
     let n = end.count;
     let e = nand(&mut *out, end, left, left);
@@ -42,18 +42,18 @@ fn emit_or(out: &mut [u8], end: End, left: u16, right: u16) -> End
 }
 
 // REACH of two bits b−a, LATER a, N.
-fn emit_not_timed(out: &mut [u8], end: End, i: u16, j: u16, a: u16, b: u16) -> End
-    requires { ⌜ (a ≤ b) × Room (now out) end (thenN (end .count) (timed (end .count) i j a b)) ⌝ }
-    ensures { λ r. ⌜ Wrote (now (out .entry)) end (thenN (end .count) (timed (end .count) i j a b)) (now (out .exit)) r ⌝ }
+fn emit_not_timed(out: &mut [u8], end: CodeEnd, i: u16, j: u16, a: u16, b: u16) -> CodeEnd
+    requires { ⌜ (a ≤ b) × CodeRoom (now out) end (thenN (end .count) (timed (end .count) i j a b)) ⌝ }
+    ensures { λ r. ⌜ CodeWrote (now (out .entry)) end (thenN (end .count) (timed (end .count) i j a b)) (now (out .exit)) r ⌝ }
 {
     let e = timed(&mut *out, end, i, j, a, b);
     invert(out, e)
 }
 
 // Release: N left, N right, REACH of the two b−a, LATER a, N.
-fn emit_release(out: &mut [u8], end: End, left: u16, right: u16, a: u16, b: u16) -> End
-    requires { ⌜ (a ≤ b) × Room (now out) end (itemCode (end .count) (Item.Release a b) left right) ⌝ }
-    ensures { λ r. ⌜ Wrote (now (out .entry)) end (itemCode (end .count) (Item.Release a b) left right) (now (out .exit)) r ⌝ }
+fn emit_release(out: &mut [u8], end: CodeEnd, left: u16, right: u16, a: u16, b: u16) -> CodeEnd
+    requires { ⌜ (a ≤ b) × CodeRoom (now out) end (itemCode (end .count) (Item.Release a b) left right) ⌝ }
+    ensures { λ r. ⌜ CodeWrote (now (out .entry)) end (itemCode (end .count) (Item.Release a b) left right) (now (out .exit)) r ⌝ }
 {
     let n = end.count;
     let e = nand(&mut *out, end, left, left);
@@ -62,9 +62,9 @@ fn emit_release(out: &mut [u8], end: End, left: u16, right: u16, a: u16, b: u16)
 }
 
 // Eventually: ONE, REACH that and the operand b−a, LATER a.
-fn emit_eventually(out: &mut [u8], end: End, right: u16, a: u16, b: u16) -> End
-    requires { ⌜ (a ≤ b) × Room (now out) end (itemCode (end .count) (Item.Eventually a b) 0 right) ⌝ }
-    ensures { λ r. ⌜ Wrote (now (out .entry)) end (itemCode (end .count) (Item.Eventually a b) 0 right) (now (out .exit)) r ⌝ }
+fn emit_eventually(out: &mut [u8], end: CodeEnd, right: u16, a: u16, b: u16) -> CodeEnd
+    requires { ⌜ (a ≤ b) × CodeRoom (now out) end (itemCode (end .count) (Item.Eventually a b) 0 right) ⌝ }
+    ensures { λ r. ⌜ CodeWrote (now (out .entry)) end (itemCode (end .count) (Item.Eventually a b) 0 right) (now (out .exit)) r ⌝ }
 {
     let n = end.count;
     let e = one(&mut *out, end);
@@ -72,9 +72,9 @@ fn emit_eventually(out: &mut [u8], end: End, right: u16, a: u16, b: u16) -> End
 }
 
 // Globally: ONE, N operand, REACH of the two b−a, LATER a, N.
-fn emit_globally(out: &mut [u8], end: End, right: u16, a: u16, b: u16) -> End
-    requires { ⌜ (a ≤ b) × Room (now out) end (itemCode (end .count) (Item.Globally a b) 0 right) ⌝ }
-    ensures { λ r. ⌜ Wrote (now (out .entry)) end (itemCode (end .count) (Item.Globally a b) 0 right) (now (out .exit)) r ⌝ }
+fn emit_globally(out: &mut [u8], end: CodeEnd, right: u16, a: u16, b: u16) -> CodeEnd
+    requires { ⌜ (a ≤ b) × CodeRoom (now out) end (itemCode (end .count) (Item.Globally a b) 0 right) ⌝ }
+    ensures { λ r. ⌜ CodeWrote (now (out .entry)) end (itemCode (end .count) (Item.Globally a b) 0 right) (now (out .exit)) r ⌝ }
 {
     let n = end.count;
     let e = one(&mut *out, end);
@@ -83,9 +83,9 @@ fn emit_globally(out: &mut [u8], end: End, right: u16, a: u16, b: u16) -> End
 }
 
 // The instructions of an item. A lone operand is the right one.
-pub(crate) fn emit_item(out: &mut [u8], end: End, item: Item, left: u16, right: u16) -> End
-    requires { ⌜ (rowOf item .lower ≤ rowOf item .upper) × Room (now out) end (itemCode (end .count) item left right) ⌝ }
-    ensures { λ r. ⌜ Wrote (now (out .entry)) end (itemCode (end .count) item left right) (now (out .exit)) r ⌝ }
+pub(crate) fn emit_item(out: &mut [u8], end: CodeEnd, item: Item, left: u16, right: u16) -> CodeEnd
+    requires { ⌜ (rowOfItem item .lower ≤ rowOfItem item .upper) × CodeRoom (now out) end (itemCode (end .count) item left right) ⌝ }
+    ensures { λ r. ⌜ CodeWrote (now (out .entry)) end (itemCode (end .count) item left right) (now (out .exit)) r ⌝ }
 {
     match item {
         Item::True => one(out, end),

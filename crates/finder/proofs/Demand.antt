@@ -6,8 +6,8 @@ use Prim.Native.Nat.{ℕ, _+_, _≤_}
 use native.Mathlib.Omega.{arith}
 use lib.ListN.{length, take, replicate}
 use lib.Seq.{take-at, drop-at}
-use Rattle.reading.specs.Buffers.{over}
-use Rattle.reading.proofs.Buffers.{over-length}
+use Rattle.ground.specs.Buffers.{over}
+use Rattle.ground.proofs.Buffers.{over-length}
 use Rattle.rules.specs.Formula.{Formula, horizon}
 use Rattle.rules.specs.Loading.{readRule}
 use Rattle.rules.specs.Meaning.{Holds}
@@ -16,9 +16,10 @@ use Rattle.emitter.specs.Translation.{codeFor}
 use Rattle.paths.specs.Answers.{Answer, met, none, noRoom, Right}
 use Rattle.paths.proofs.Counting.{not-within}
 use Rattle.finder.specs.Demand.{Demanded, DemandTwo}
-use Rattle.finder.specs.Finding.{roomOf, foundOf, witnessAfter, SearchSays}
+use Rattle.table.specs.Room.{roomOf}
+use Rattle.finder.specs.Search.{foundOf, witnessAfter, SearchSays}
 use Rattle.finder.specs.declared.search.Found.{Found}
-use Rattle.finder.proofs.Finding.{first-short, answers-said}
+use Rattle.finder.proofs.Answered.{first-short, answers-said}
 use Rattle.finder.proofs.search.search.Reads as search
 
 -- The contract is what the function ensures

@@ -10,15 +10,15 @@ use borrow.Author.Tests.{eqb-true, eq-eqb, ne-eqb, not-true}
 use lib.Dec.{eqb}
 use lib.ListN.{length, getD, set, length-set}
 use lib.Seq.{getD-set-same, getD-set-other}
-use Rattle.reading.specs.Frames.{hasFlag}
-use Rattle.paths.specs.Searching.{frameBytes}
-use Rattle.sequencer.specs.Code.{Instruction, One, Flag, Nand, Reach, Later, Code, instructionOf}
-use Rattle.sequencer.specs.Programs.{instructionAt, codeIn, Sound}
+use Rattle.ground.specs.Frames.{hasFlag}
+use Rattle.paths.specs.Inner.Searching.{frameBytes}
+use Rattle.code.specs.Code.{Instruction, One, Flag, Nand, Reach, Later, Code, instructionOf}
+use Rattle.code.specs.Programs.{instructionAt, codeIn, Sound}
 use Rattle.sequencer.specs.Registers.{Working, execute, executed}
-use Rattle.sequencer.proofs.Flat.{code-length, code-at, fine-at}
+use Rattle.code.proofs.Flat.{code-length, code-at, fine-at}
 use Rattle.sequencer.proofs.Through.{at-flag}
-use Rattle.finder.specs.Flags.{flags, Names, NamedBy, Other, Passed, PassesOver}
-use Rattle.finder.proofs.Records.{one-more}
+use Rattle.finder.specs.Inner.Flags.{flags, Names, NamedBy, Other, Passed, PassesOver}
+use Rattle.table.proofs.Records.{one-more}
 
 -- A step sees only the flags that its code names
 

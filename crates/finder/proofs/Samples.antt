@@ -9,22 +9,22 @@ use native.Mathlib.Omega.{arith}
 use borrow.Author.Tests.{ltb-true, eqb-true, eq-eqb}
 use lib.Dec.{eqb, ltb}
 use lib.ListN.{length}
-use Rattle.reading.specs.Buffers.{byteValues, AllBytes}
-use Rattle.reading.specs.Each.{Each}
-use Rattle.reading.proofs.Each.{each-then}
-use Rattle.reading.specs.Frames.{Clip, hasFlag}
-use Rattle.reading.specs.InTurn.{walked, inTurn}
+use Rattle.ground.specs.Buffers.{byteValues, AllBytes}
+use Rattle.ground.specs.Each.{Each}
+use Rattle.ground.proofs.Each.{each-then}
+use Rattle.ground.specs.Frames.{Clip, hasFlag}
+use Rattle.reading.specs.InTurn.{readAll, inTurn}
 use Rattle.reading.specs.Items.{itemAt, numbersFrom, look, ruleCodes}
 use Rattle.reading.specs.Numbers.{numberAt}
 use Rattle.rules.specs.Accepted.{IsRule}
 use Rattle.rules.specs.Formula.{Formula, horizon}
 use Rattle.rules.specs.Items.{itemOf, apply}
-use Rattle.rules.specs.Loading.{Items, Reading, accepted, refused, stackFrom, timedIn, lowerIn, countsOf, countedOf, badWindow, tooLarge, judgeOf, readRule}
+use Rattle.rules.specs.Loading.{Items, Reading, accepted, refused, stackFrom, timedIn, lowerIn, ruleCounts, ruleCounted, badWindow, ruleTooLarge, checkItem, readRule}
 use Rattle.rules.specs.Meaning.{Holds}
 use Rattle.rules.proofs.Accepted.{accepted-rule}
 use Rattle.sequencer.specs.After.{stepsOver}
 use Rattle.sequencer.specs.Bits.{output, next}
-use Rattle.sequencer.specs.Code.{Code}
+use Rattle.code.specs.Code.{Code}
 use Rattle.sequencer.specs.Registers.{freshRegisters, shifted, execute, executed}
 use Rattle.sequencer.specs.Stepping.{advancedBy}
 use Rattle.sequencer.specs.declared.registers.Registers.{Registers}
@@ -34,13 +34,13 @@ use Rattle.emitter.proofs.Accepted.{good-code}
 use Rattle.emitter.proofs.Samples as emitted
 use Rattle.paths.specs.Answers as paths
 use Rattle.paths.specs.Answers.{Answer, met, none, noRoom}
-use Rattle.paths.specs.Model.{Machine, after, Hits, Ended, ended, unfinished, modelled}
+use Rattle.paths.specs.Inner.Model.{Machine, after, MachineHits, Ended, ended, unfinished, modelled}
 use Rattle.paths.proofs.Model.{model-right}
 use Rattle.paths.proofs.Unique.{one-answer, right-alike}
-use Rattle.finder.specs.Finding.{statesOf, foundOf, witnessAfter}
-use Rattle.finder.specs.Samples.{Sample, searches, refuses, judges, emits, Right, samples}
-use Rattle.finder.proofs.Exploring.{output-step}
-use Rattle.finder.proofs.Finding.{hits-holds, answers-said}
+use Rattle.finder.specs.Search.{statesOf, foundOf, witnessAfter}
+use Rattle.finder.specs.Samples.{Sample, searches, refuses, judges, emits, FoundRight, samples}
+use Rattle.finder.proofs.Turns.{output-step}
+use Rattle.finder.proofs.Answered.{hits-holds, answers-said}
 
 -- Whether two lists are the same, by a test of their elements
 module _ {A : Type 0} (test : A → A → Bool) where
@@ -128,7 +128,7 @@ module _ (rule : List ℕ) (is : Items) (f : Formula) (bytes : areBytes rule ≡
   is-rule = accepted-rule rule is f (are-bytes rule bytes) reads
 
   -- the output of its code is its meaning
-  alike : (x : ℕ) (c : Clip) → Hits machine (x ∷ c) ↔ Holds f (x ∷ c)
+  alike : (x : ℕ) (c : Clip) → MachineHits machine (x ∷ c) ↔ Holds f (x ∷ c)
   unfolding advancedBy
   alike x c =
       let e : machine .out (after machine c) x ≡ output (codeFor f) (x ∷ c) =
@@ -139,11 +139,11 @@ module _ (rule : List ℕ) (is : Items) (f : Formula) (bytes : areBytes rule ≡
   -- so an answer of the model is right
   model-answers : (room fuel : ℕ) (a : Answer) → modelled machine room fuel ≡ ended a → paths.Right (stepsOver (codeFor f)) (Holds f) room a
   model-answers room fuel a e =
-      right-alike (after machine) (stepsOver (codeFor f)) (Hits machine) (Holds f) room a (after-steps (codeFor f)) alike
+      right-alike (after machine) (stepsOver (codeFor f)) (MachineHits machine) (Holds f) room a (after-steps (codeFor f)) alike
       (model-right machine registers-sound registers-finds room fuel a e)
 
   -- and it is what the search says
-  searches-right : (h fuel : ℕ) (a : Answer) → horizon f ≡ h → 1 ≤ statesOf (foundOf a) → modelled machine (statesOf (foundOf a)) fuel ≡ ended a → Right (searches rule h a)
+  searches-right : (h fuel : ℕ) (a : Answer) → horizon f ≡ h → 1 ≤ statesOf (foundOf a) → modelled machine (statesOf (foundOf a)) fuel ≡ ended a → FoundRight (searches rule h a)
   searches-right h fuel a near some e = (
     (length is, rw (reads, near)),
     λ table witness room long r table′ witness′ says.
@@ -165,14 +165,14 @@ computed rule (refused r) a = (false, 0, unfinished)
 abbrev Computes : Sample → Type 0
 Computes (searches rule h a) = computed rule (readRule rule) a ≡ (true, h, ended a)
 Computes (refuses rule refusal) = readRule rule ≡ refused refusal
-Computes (judges rule clip verdicts) = Right (judges rule clip verdicts)
-Computes (emits rule code) = Right (emits rule code)
+Computes (judges rule clip verdicts) = FoundRight (judges rule clip verdicts)
+Computes (emits rule code) = FoundRight (emits rule code)
 
 -- A row that computes is right
-right : (s : Sample) → Computes s → Right s
+right : (s : Sample) → Computes s → FoundRight s
 right (searches rule h a) e = of (readRule rule) refl e
   where
-    of : (read : Reading) → readRule rule ≡ read → computed rule read a ≡ (true, h, ended a) → Right (searches rule h a)
+    of : (read : Reading) → readRule rule ≡ read → computed rule read a ≡ (true, h, ended a) → FoundRight (searches rule h a)
     of (accepted is f) reads e =
         let (bytes, some) = and-eq-true-iff (areBytes rule) (ltb 0 (statesOf (foundOf a))) .0 (ap (λ p. p .0) e) in
         searches-right rule is f bytes reads h moves a (ap (λ p. p .1) e) (ltb-true 0 (statesOf (foundOf a)) some) (ap (λ p. p .2) e)
@@ -182,7 +182,7 @@ right (judges rule clip verdicts) e = e
 right (emits rule code) e = e
 
 -- The run and the emitted code are rows of the emitter's samples
-pub samples-right : Each Right samples
-unfolding samples emitter.samples readRule walked inTurn itemAt numbersFrom look ruleCodes numberAt judgeOf badWindow tooLarge countsOf countedOf timedIn lowerIn stackFrom apply itemOf horizon laterBy timed itemCode translate advancedBy executed execute shifted next hasFlag
+pub samples-right : Each FoundRight samples
+unfolding samples emitter.samples readRule readAll inTurn itemAt numbersFrom look ruleCodes numberAt checkItem badWindow ruleTooLarge ruleCounts ruleCounted timedIn lowerIn stackFrom apply itemOf horizon laterBy timed itemCode translate advancedBy executed execute shifted next hasFlag
 samples-right =
-    each-then Computes Right right samples (refl, (refl, (refl, (refl, (refl, (refl, (refl, (refl, (refl, (refl, (refl, (refl, (refl, (refl, (refl, (emitted.samples-right .1 .1 .0, (emitted.samples-right .0, (refl, tt))))))))))))))))))
+    each-then Computes FoundRight right samples (refl, (refl, (refl, (refl, (refl, (refl, (refl, (refl, (refl, (refl, (refl, (refl, (refl, (refl, (refl, (emitted.samples-right .1 .1 .0, (emitted.samples-right .0, (refl, tt))))))))))))))))))

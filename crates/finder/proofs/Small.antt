@@ -8,9 +8,9 @@ use native.Mathlib.Nat.{min-le-right}
 use native.Mathlib.Omega.{arith}
 use borrow.Author.Tests.{le-ltb}
 use lib.ListN.{length}
-use Rattle.reading.specs.Buffers.{AllBytes}
-use Rattle.reading.specs.Limits.{limits}
-use Rattle.reading.specs.Refusals.{placeOf}
+use Rattle.ground.specs.Buffers.{AllBytes}
+use Rattle.ground.specs.Limits.{limits}
+use Rattle.ground.specs.Refusals.{placeOf}
 use Rattle.rules.specs.Accepted.{mostHorizon, mostRuleBytes}
 use Rattle.rules.specs.Formula.{Formula, horizon}
 use Rattle.rules.specs.Loading.{Items, Reading, accepted, refused, readRule}
@@ -21,9 +21,10 @@ use Rattle.sequencer.specs.After.{stepsOver}
 use Rattle.emitter.specs.Translation.{codeFor}
 use Rattle.paths.specs.Answers.{Answer, met, none, noRoom, Right}
 use Rattle.paths.proofs.Counting.{fresh-counted}
-use Rattle.finder.specs.Finding.{roomOf, foundOf, shortWitness, RuleSays, SearchSays}
+use Rattle.table.specs.Room.{roomOf}
+use Rattle.finder.specs.Search.{foundOf, shortWitness, RuleSays, SearchSays}
 use Rattle.finder.specs.declared.search.Found.{Found}
-use Rattle.finder.proofs.Finding.{first-short}
+use Rattle.finder.proofs.Answered.{first-short}
 
 -- An answer whose numbers are small
 abbrev pub Small : Found → Type 0

@@ -4,13 +4,13 @@ use mathlib.Core.Path.{_≡_, sym, ap, _∙_}
 use mathlib.Core.Bool.{Bool, true, false}
 use mathlib.Core.List.{List}
 use Prim.Native.Nat.{ℕ}
-use Rattle.reading.specs.declared.refusal.Refusal.{Refusal}
+use Rattle.ground.specs.declared.refusal.Refusal.{Refusal}
 use Rattle.rules.specs.Formula.{Formula}
 use Rattle.rules.specs.Loading.{Reading, accepted, refused, readRule}
 use Rattle.rules.specs.Meaning.{Holds}
 use Rattle.emitter.specs.Translation.{codeFor}
 use Rattle.paths.proofs.Unique.{one-answer}
-use Rattle.finder.specs.Finding.{foundOf, witnessAfter, Answers, Refuses, shortWitness, RuleSays, SearchSays}
+use Rattle.finder.specs.Search.{foundOf, witnessAfter, Answers, Refuses, shortWitness, RuleSays, SearchSays}
 use Rattle.finder.specs.declared.search.Found.{Found}
 use Rattle.finder.proofs.search.search.Reads as search
 

@@ -6,15 +6,15 @@ use native.Mathlib.Numerals.{add-one}
 use native.Mathlib.Omega.{arith}
 use lib.ListN.{length, set, length-append, length-set}
 use lib.Seq.{drop-set-lt}
-use Rattle.reading.specs.Buffers.{over}
-use Rattle.reading.specs.Frames.{Clip}
-use Rattle.reading.specs.Limits.{limits}
-use Rattle.reading.specs.declared.refusal.Refusal.{Refusal}
-use Rattle.reading.proofs.Buffers.{over-more}
-use Rattle.finder.specs.Records.{linkIn, frameIn, recordAt}
-use Rattle.finder.specs.Searches.{CanShow, Showing, CanTell, Tells}
-use Rattle.finder.specs.Tables.{Shows}
-use Rattle.finder.specs.declared.explore.End.{End}
+use Rattle.ground.specs.Buffers.{over}
+use Rattle.ground.specs.Frames.{Clip}
+use Rattle.ground.specs.Limits.{limits}
+use Rattle.ground.specs.declared.refusal.Refusal.{Refusal}
+use Rattle.ground.proofs.Buffers.{over-more}
+use Rattle.table.specs.Inner.Records.{linkIn, frameIn, recordAt}
+use Rattle.finder.specs.Inner.Search.{CanShow, Showing, CanTell, Tells}
+use Rattle.finder.specs.Inner.Explore.{Shows}
+use Rattle.finder.specs.declared.explore.Explored.{Explored}
 use Rattle.finder.specs.declared.search.Found.{Found}
 
 -- A record shows one clip
@@ -73,7 +73,7 @@ module _ (table : List ℕ) (state frame : ℕ) (before : List ℕ) where
   module _ {after : List ℕ} {n at link : ℕ} (w : Walks table state frame before after n at link) where
     -- The walk goes on to a record before this one
     module _ (more : link ≡ 0 → ⊥) where
-      record Next : Type 0 where
+      record NextFrame : Type 0 where
         pub head : ℕ
         pub tail : Clip
         pub own : w .rest ≡ head ∷ tail
@@ -81,11 +81,11 @@ module _ (table : List ℕ) (state frame : ℕ) (before : List ℕ) where
         pub less : link - 1 < at
         pub leads : Shows table (link - 1) tail
 
-      next : Next
+      next : NextFrame
       unfolding Shows
       next = of (w .rest) refl (w .leads)
         where
-          of : (rest : Clip) → w .rest ≡ rest → Shows table at rest → Next
+          of : (rest : Clip) → w .rest ≡ rest → Shows table at rest → NextFrame
           of [] e h = absurd (more (w .own-link ∙ h))
           of (x ∷ c) e h =
               let (own-frame, m, link-is, less, leads) = h in
@@ -140,16 +140,16 @@ module _ (table : List ℕ) (state frame : ℕ) (before : List ℕ) where
         none (x ∷ c) h = absurd (omega (arith, w .own-link, h .2))
 
 -- Telling an end that is known
-module _ (table witness : List ℕ) (end : End) where
-  pub tell-can : CanTell end table witness → (k b m : ℕ) → end ≡ End.Met k b m → CanShow table k witness
+module _ (table witness : List ℕ) (end : Explored) where
+  pub tell-can : CanTell end table witness → (k b m : ℕ) → end ≡ Explored.Met k b m → CanShow table k witness
   tell-can can k b m e = subst (λ x. CanTell x table witness) e can
 
-  pub tells-met : (k b m : ℕ) → end ≡ End.Met k b m → (n : ℕ) (witness′ : List ℕ) → Showing table k b witness witness′ n → Tells end table witness (Found.Met n m) witness′
+  pub tells-met : (k b m : ℕ) → end ≡ Explored.Met k b m → (n : ℕ) (witness′ : List ℕ) → Showing table k b witness witness′ n → Tells end table witness (Found.Met n m) witness′
   tells-met k b m e n witness′ showing =
       rw e (λ clip shows. (ap (λ l. Found.Met l m) (showing clip shows .0), showing clip shows .1))
 
-  pub tells-none : (m : ℕ) → end ≡ End.None m → Tells end table witness (Found.None m) witness
+  pub tells-none : (m : ℕ) → end ≡ Explored.None m → Tells end table witness (Found.None m) witness
   tells-none m e = rw e (refl, refl)
 
-  pub tells-full : end ≡ End.NoRoom → Tells end table witness (Found.Refused Refusal.NoRoom) witness
+  pub tells-full : end ≡ Explored.NoRoom → Tells end table witness (Found.Refused Refusal.NoRoom) witness
   tells-full e = rw e (refl, refl)

@@ -7,15 +7,16 @@ use mathlib.Core.List.{List}
 use mathlib.Core.Logic.{_↔_}
 use Prim.Native.Nat.{ℕ, _+_, _≤_}
 use lib.ListN.{length, take, drop, replicate}
-use Rattle.reading.specs.Frames.{Clip}
-use Rattle.reading.specs.declared.refusal.Refusal.{Refusal}
+use Rattle.ground.specs.Frames.{Clip}
+use Rattle.ground.specs.declared.refusal.Refusal.{Refusal}
 use Rattle.rules.specs.Formula.{Formula, horizon}
 use Rattle.rules.specs.Loading.{Items, accepted, readRule}
 use Rattle.rules.specs.Meaning.{Holds}
 use Rattle.sequencer.specs.After.{stepsOver}
 use Rattle.emitter.specs.Translation.{codeFor}
 use Rattle.paths.specs.Answers.{Satisfying, First, Counts, Outnumber}
-use Rattle.finder.specs.Finding.{roomOf, isMet, lengthOf, statesOf, SearchSays}
+use Rattle.table.specs.Room.{roomOf}
+use Rattle.finder.specs.Search.{isMet, lengthOf, statesOf, SearchSays}
 use Rattle.finder.specs.declared.search.Found.{Found}
 
 -- The distinct states so counted are so many

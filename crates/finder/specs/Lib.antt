@@ -1,10 +1,5 @@
 -- What the contracts of `finder` cite.
-pub mod Finding
+pub mod Search
 pub mod Demand
-pub mod Records
-pub mod Index
-pub mod Tables
-pub mod Flags
-pub mod Exploring
-pub mod Searches
 pub mod Samples
+pub mod Inner

@@ -4,13 +4,14 @@ use mathlib.Core.Path.{_≡_}
 use mathlib.Core.List.{List, [], _∷_}
 use Prim.Native.Nat.{ℕ, _+_, _≤_}
 use lib.ListN.{length, replicate}
-use Rattle.reading.specs.Frames.{Clip}
-use Rattle.reading.specs.declared.refusal.Refusal.{Refusal}
+use Rattle.ground.specs.Frames.{Clip}
+use Rattle.ground.specs.declared.refusal.Refusal.{Refusal}
 use Rattle.rules.specs.Loading.{readRule, loadedOf}
 use Rattle.rules.specs.declared.load.Loaded.{Loaded}
 use Rattle.emitter.specs.Samples as emitter
 use Rattle.paths.specs.Answers.{Answer, met, none}
-use Rattle.finder.specs.Finding.{statesOf, roomOf, foundOf, witnessAfter, SearchSays}
+use Rattle.finder.specs.Search.{statesOf, foundOf, witnessAfter, SearchSays}
+use Rattle.table.specs.Room.{roomOf}
 use Rattle.finder.specs.declared.search.Found.{Found}
 
 -- A row: a rule, its horizon and the search's answer; a rule and its refusal; a rule, a clip and what a run of its code writes for it; or a rule and its code
@@ -22,17 +23,17 @@ pub data Sample : Type 0 where
 
 -- A row is right by the definitions that the contracts cite: a search says this for every table with room for the states and every witness buffer of horizon + 1 bytes or more, a
 -- refusal for all
-abbrev pub Right : Sample → Type 0
-Right (searches rule horizon answer) =
+abbrev pub FoundRight : Sample → Type 0
+FoundRight (searches rule horizon answer) =
     ((n : ℕ) × (loadedOf (readRule rule) ≡ Loaded.Accepted n horizon))
     × ((table witness : List ℕ) → statesOf (foundOf answer) ≤ roomOf table → horizon + 1 ≤ length witness
     → (r : Found) (table′ witness′ : List ℕ) → SearchSays (readRule rule) table witness r table′ witness′
     → (r ≡ foundOf answer) × (table′ ≡ replicate (length table) 0) × (witness′ ≡ witnessAfter answer witness))
-Right (refuses rule refusal) =
+FoundRight (refuses rule refusal) =
     (table witness : List ℕ) (r : Found) (table′ witness′ : List ℕ) → SearchSays (readRule rule) table witness r table′ witness′
     → (r ≡ Found.Refused refusal) × (table′ ≡ table) × (witness′ ≡ witness)
-Right (judges rule clip verdicts) = emitter.Right (emitter.judges rule clip verdicts)
-Right (emits rule code) = emitter.Right (emitter.emits rule code)
+FoundRight (judges rule clip verdicts) = emitter.EmittedRight (emitter.judges rule clip verdicts)
+FoundRight (emits rule code) = emitter.EmittedRight (emitter.emits rule code)
 
 -- The table
 unfoldable pub samples : List Sample

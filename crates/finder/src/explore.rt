@@ -2,16 +2,16 @@
 // byte with a flag that the code does not name is passed over: it leads where a smaller one led.
 ghost use mathlib.Core.Path.{_≡_};
 ghost use lib.ListN.{length};
-ghost use Rattle.sequencer.specs.Programs.{codeIn};
-ghost use Rattle.finder.specs.Exploring.{CanKeep, Keeping, Tries, TriedTo, Ready, Ends};
+ghost use Rattle.code.specs.Programs.{codeIn};
+ghost use Rattle.finder.specs.Inner.Explore.{CanKeep, Keeping, Tries, TriedTo, CanExplore, Ends};
 use crate::flags::named_flags;
 use crate::flags::passed_over;
-use crate::record::registers_of;
-use crate::table::Look;
-use crate::table::find;
-use crate::table::record_at;
-use crate::table::store;
 use sequencer::registers::Registers;
+use table::Look;
+use table::find;
+use table::record::registers_of;
+use table::record_at;
+use table::store;
 
 // What is stored: how many states, and whether one was found for which there is no record.
 pub(crate) struct Kept {
@@ -28,7 +28,7 @@ pub(crate) struct Trials {
 }
 
 // What exploring answers: the state and the frame byte that satisfy and the number of states of shorter clips, the number of all states, or no room.
-pub(crate) enum End {
+pub(crate) enum Explored {
     Met {
         state: usize,
         frame: u8,
@@ -113,12 +113,12 @@ fn try_length(
 }
 
 // Explores length by length, from the fresh state on. A state without a record is no room only once all clips of its length are tried.
-pub(crate) fn explore(numbers: &[u16], count: usize, table: &mut [u8], room: usize) -> End
-    requires { ⌜ Ready (now numbers) count room (now table) ⌝ }
+pub(crate) fn explore(numbers: &[u16], count: usize, table: &mut [u8], room: usize) -> Explored
+    requires { ⌜ CanExplore (now numbers) count room (now table) ⌝ }
     ensures { λ r. ⌜ (length (now (table .exit)) ≡ length (now (table .entry))) × Ends (codeIn (now (numbers .entry)) count) room (now (table .exit)) r ⌝ }
 {
     if room == 0 {
-        return End::NoRoom;
+        return Explored::NoRoom;
     }
     store(&mut *table, room, 0, Registers::fresh(), 0, 0);
     let named = named_flags(numbers, count);
@@ -141,7 +141,7 @@ pub(crate) fn explore(numbers: &[u16], count: usize, table: &mut [u8], room: usi
             kept,
         );
         if trials.hit {
-            return End::Met {
+            return Explored::Met {
                 state: trials.state,
                 frame: trials.frame,
                 states: ended,
@@ -149,10 +149,10 @@ pub(crate) fn explore(numbers: &[u16], count: usize, table: &mut [u8], room: usi
         }
         kept = trials.kept;
         if kept.full {
-            return End::NoRoom;
+            return Explored::NoRoom;
         }
         if kept.stored == ended {
-            return End::None { states: ended };
+            return Explored::None { states: ended };
         }
         first = ended;
         ended = kept.stored;

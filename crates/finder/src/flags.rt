@@ -1,10 +1,10 @@
 // The bytes that matter: a byte with a flag that the code does not name leads where the smaller byte without that flag leads.
 ghost use mathlib.Core.Path.{_≡_};
 ghost use lib.ListN.{length};
-ghost use Rattle.paths.specs.Searching.{frameBytes};
-ghost use Rattle.sequencer.specs.Programs.{Sound, codeIn};
-ghost use Rattle.finder.specs.Flags.{flags, NamedBy, Other, Passed};
-use reading::limits::MOST_FLAG;
+ghost use Rattle.paths.specs.Inner.Searching.{frameBytes};
+ghost use Rattle.code.specs.Programs.{Sound, codeIn};
+ghost use Rattle.finder.specs.Inner.Flags.{flags, NamedBy, Other, Passed};
+use ground::limits::MOST_FLAG;
 
 // How many flags a frame has, and how many bytes there are.
 const FLAGS: usize = MOST_FLAG as usize + 1;

@@ -1,7 +1,4 @@
 // The search: whether any clip satisfies a rule, and the first one that does.
 mod explore;
 mod flags;
-mod index;
-mod record;
 pub mod search;
-mod table;

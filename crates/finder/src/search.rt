@@ -2,25 +2,25 @@
 ghost use mathlib.Core.List.{List};
 ghost use Prim.Native.Nat.{ℕ};
 ghost use Rattle.rules.specs.Loading.{readRule};
-ghost use Rattle.sequencer.specs.Programs.{codeIn};
-ghost use Rattle.finder.specs.Exploring.{Hits};
-ghost use Rattle.finder.specs.Finding.{Answers, SearchSays};
-ghost use Rattle.finder.specs.Searches.{CanShow, Showing, CanTell, Tells, CanSearch, Searchable, RuleAnswers};
-use crate::explore::End;
+ghost use Rattle.code.specs.Programs.{codeIn};
+ghost use Rattle.finder.specs.Inner.Explore.{Outputs};
+ghost use Rattle.finder.specs.Search.{Answers, SearchSays};
+ghost use Rattle.finder.specs.Inner.Search.{CanShow, Showing, CanTell, Tells, CanSearch, Searchable, RuleAnswers};
+use crate::explore::Explored;
 use crate::explore::explore;
-use crate::record::LINK;
-use crate::record::frame_of;
-use crate::record::link_at;
-use crate::table::clear;
-use crate::table::record_at;
-use crate::table::room_of;
 use emitter::emit::Emitted;
 use emitter::emit::MOST_CODE;
 use emitter::emit::emit_rule;
-use reading::refusal::Refusal;
+use ground::refusal::Refusal;
 use rules::load::Loaded;
 use rules::load::Rule;
 use rules::load::decode;
+use table::clear;
+use table::record::LINK;
+use table::record::frame_of;
+use table::record::link_at;
+use table::record_at;
+use table::room_of;
 
 // What the search answers: a clip's length and the number of states, that there is none and the number of states, or the refusal.
 pub enum Found {
@@ -48,12 +48,12 @@ fn write_witness(table: &[u8], state: usize, frame: u8, witness: &mut [u8]) -> u
 }
 
 // Tells what exploring ends with: the clip that a state shows, with a frame byte in front, goes into the witness buffer.
-fn tell(end: End, table: &[u8], witness: &mut [u8]) -> Found
+fn tell(end: Explored, table: &[u8], witness: &mut [u8]) -> Found
     requires { ⌜ CanTell end (now table) (now witness) ⌝ }
     ensures { λ r. ⌜ Tells end (now (table .entry)) (now (witness .entry)) r (now (witness .exit)) ⌝ }
 {
     match end {
-        End::Met {
+        Explored::Met {
             state,
             frame,
             states,
@@ -61,15 +61,15 @@ fn tell(end: End, table: &[u8], witness: &mut [u8]) -> Found
             let length = write_witness(table, state, frame, witness);
             Found::Met { length, states }
         }
-        End::None { states } => Found::None { states },
-        End::NoRoom => Found::Refused(Refusal::NoRoom),
+        Explored::None { states } => Found::None { states },
+        Explored::NoRoom => Found::Refused(Refusal::NoRoom),
     }
 }
 
 // Searches by code that is loaded, in a table that is made all zero first, which is an empty index, and is all zero again at the end.
 fn search_code(numbers: &[u16], count: usize, table: &mut [u8], witness: &mut [u8]) -> Found
     requires { ⌜ CanSearch (now numbers) count (now witness) ⌝ }
-    ensures { λ r. ⌜ Answers (codeIn (now (numbers .entry)) count) (Hits (codeIn (now (numbers .entry)) count)) (now (table .entry)) (now (witness .entry)) r (now (table .exit)) (now (witness .exit)) ⌝ }
+    ensures { λ r. ⌜ Answers (codeIn (now (numbers .entry)) count) (Outputs (codeIn (now (numbers .entry)) count)) (now (table .entry)) (now (witness .entry)) r (now (table .exit)) (now (witness .exit)) ⌝ }
 {
     let room = room_of(&table[..]);
     clear(&mut *table);
@@ -88,14 +88,14 @@ fn search_rule(rule: Rule, table: &mut [u8], witness: &mut [u8]) -> Found
     let mut code = [0; MOST_CODE];
     match emit_rule(rule, &mut code) {
         Emitted::Length(length) => {
-            let program = sequencer::load::decode(&code[..length]);
+            let program = code::load::decode(&code[..length]);
             let loaded = program.loaded;
             match loaded {
-                sequencer::load::Loaded::Accepted(count) => {
+                code::load::LoadedCode::Accepted(count) => {
                     let numbers = program.numbers;
                     search_code(&numbers, count, table, witness)
                 }
-                sequencer::load::Loaded::Refused(refusal) => Found::Refused(refusal),
+                code::load::LoadedCode::Refused(refusal) => Found::Refused(refusal),
             }
         }
         Emitted::Refused(refusal) => Found::Refused(refusal),

@@ -7,11 +7,10 @@ use native.Mathlib.Nat.{zero-add}
 use native.Mathlib.Omega.{arith}
 use lib.ListN.{length, take, drop, length-append}
 use lib.Seq.{take-at, length-take-le}
-use Rattle.reading.specs.Buffers.{AllBytes, tooShort, over}
-use Rattle.reading.specs.Numbers.{written, placeAfter}
-use Rattle.reading.specs.declared.refusal.Refusal.{Refusal}
-use Rattle.reading.proofs.Buffers.{too-short, long-enough}
-use Rattle.reading.proofs.Written.{written-length, written-fitting}
+use Rattle.ground.specs.Buffers.{AllBytes, tooShort, over, written, placeAfter}
+use Rattle.ground.specs.declared.refusal.Refusal.{Refusal}
+use Rattle.ground.proofs.Buffers.{too-short, long-enough}
+use Rattle.ground.proofs.Written.{written-length, written-fitting}
 use Rattle.rules.specs.Accepted.{mostRuleBytes}
 use Rattle.rules.specs.Formula.{Formula}
 use Rattle.rules.specs.Loading.{Items, Reading, accepted, readRule, loadedOf}

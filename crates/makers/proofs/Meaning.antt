@@ -7,19 +7,19 @@ use mathlib.Core.Logic.{_⊎_, ⊎-elim}
 use Prim.Native.Nat.{ℕ, _+_, _<_, max}
 use native.Mathlib.Omega.{arith}
 use lib.ListN.{length, drop}
-use Rattle.reading.specs.Buffers.{AllBytes, tooShort}
-use Rattle.reading.specs.Each.{Each}
-use Rattle.reading.specs.Frames.{Clip}
+use Rattle.ground.specs.Buffers.{AllBytes, tooShort}
+use Rattle.ground.specs.Each.{Each}
+use Rattle.ground.specs.Frames.{Clip}
 use Rattle.reading.specs.InTurn.{bytesOfAll}
 use Rattle.reading.specs.Numbers.{numberBytes}
-use Rattle.reading.specs.declared.refusal.Refusal.{Refusal}
-use Rattle.reading.proofs.Buffers.{bytes-joined}
-use Rattle.reading.proofs.Choices.{else-taken}
-use Rattle.reading.proofs.Each.{each-joined}
+use Rattle.ground.specs.declared.refusal.Refusal.{Refusal}
+use Rattle.ground.proofs.Buffers.{bytes-joined}
+use Rattle.ground.proofs.Choices.{else-taken}
+use Rattle.ground.proofs.Each.{each-joined}
 use Rattle.reading.proofs.InTurn.{bytes-append}
 use Rattle.rules.specs.Formula.{Formula, Not, And, Or, Globally, horizon}
-use Rattle.rules.specs.Good.{InRange, postfix}
-use Rattle.rules.specs.Items.{bytesOf, ruleBytes}
+use Rattle.rules.specs.Accepted.{InRange}
+use Rattle.rules.specs.Items.{postfix, bytesOfItem, ruleBytes}
 use Rattle.rules.specs.Loading.{Items, Reading, accepted, refused, readRule}
 use Rattle.rules.specs.Meaning.{Holds, holds}
 use Rattle.rules.specs.declared.item.Item.{Item}
@@ -48,7 +48,7 @@ joined {a} {b} {is} {js} s t =
     }
 
 -- those of an operator
-operator-spells : (i : Item) → AllBytes (bytesOf i) → InRange i → Spells (bytesOf i) (i ∷ [])
+operator-spells : (i : Item) → AllBytes (bytesOfItem i) → InRange i → Spells (bytesOfItem i) (i ∷ [])
 unfolding bytesOfAll
 operator-spells i small range = record { small = small; own = rw append-nil; ranges = (range, tt) }
 
@@ -61,26 +61,26 @@ rule-spells rule is f small e =
 -- what the makers of one rule spell, and those of two
 module _ (rule : List ℕ) (is : Items) (f : Formula) (small : AllBytes rule) (read : readRule rule ≡ accepted is f) where
   pub negate-spells : Spells (rule ++ negation) (postfix (Not f))
-  unfolding bytesOf postfix
+  unfolding bytesOfItem postfix
   negate-spells = joined (rule-spells rule is f small read) (operator-spells Item.Not negation-bytes (omega arith))
 
   pub next-spells : Spells (rule ++ nextFrame) (postfix (Globally 1 1 f))
-  unfolding bytesOf numberBytes postfix
+  unfolding bytesOfItem numberBytes postfix
   next-spells =
       joined (rule-spells rule is f small read)
       (operator-spells (Item.Globally 1 1) next-bytes (omega arith))
 
 module _ (first second : List ℕ) (is js : Items) (f g : Formula) (small : AllBytes first) (bytes : AllBytes second)
     (read : readRule first ≡ accepted is f) (also : readRule second ≡ accepted js g) where
-  two-spell : (i : Item) → AllBytes (bytesOf i) → InRange i → Spells (first ++ (second ++ bytesOf i)) (postfix f ++ (postfix g ++ i ∷ []))
+  two-spell : (i : Item) → AllBytes (bytesOfItem i) → InRange i → Spells (first ++ (second ++ bytesOfItem i)) (postfix f ++ (postfix g ++ i ∷ []))
   two-spell i b r = joined (rule-spells first is f small read) (joined (rule-spells second js g bytes also) (operator-spells i b r))
 
   pub both-spell : Spells (first ++ (second ++ conjunction)) (postfix (And f g))
-  unfolding bytesOf postfix
+  unfolding bytesOfItem postfix
   both-spell = two-spell Item.And conjunction-bytes (omega arith)
 
   pub either-spell : Spells (first ++ (second ++ disjunction)) (postfix (Or f g))
-  unfolding bytesOf postfix
+  unfolding bytesOfItem postfix
   either-spell = two-spell Item.Or disjunction-bytes (omega arith)
 
 -- a maker that answers a length has read the new bytes as a rule

@@ -4,11 +4,11 @@ use mathlib.Core.List.{List, _++_}
 use mathlib.Core.Logic.{⊎-elim}
 use Prim.Native.Nat.{ℕ}
 use native.Mathlib.Omega.{arith}
-use Rattle.reading.specs.Buffers.{AllBytes}
-use Rattle.reading.specs.Refusals.{numberOf}
-use Rattle.reading.specs.declared.refusal.Refusal.{Refusal}
+use Rattle.ground.specs.Buffers.{AllBytes}
+use Rattle.ground.specs.Refusals.{numberOf}
+use Rattle.ground.specs.declared.refusal.Refusal.{Refusal}
 use Rattle.rules.specs.Formula.{Formula, Not, And, Or, Globally}
-use Rattle.rules.specs.Good.{postfix}
+use Rattle.rules.specs.Items.{postfix}
 use Rattle.rules.specs.Loading.{Items, accepted, refused, readRule}
 use Rattle.rules.proofs.TooLarge.{read-or-large}
 use Rattle.makers.specs.Making.{negation, conjunction, disjunction, nextFrame}

@@ -5,8 +5,8 @@ use mathlib.Core.Bool.{cond}
 use mathlib.Core.List.{List, [], _∷_, _++_}
 use Prim.Native.Nat.{ℕ, _+_, _*_}
 use lib.ListN.{length}
-use Rattle.reading.specs.Buffers.{tooShort, over}
-use Rattle.reading.specs.declared.refusal.Refusal.{Refusal}
+use Rattle.ground.specs.Buffers.{tooShort, over}
+use Rattle.ground.specs.declared.refusal.Refusal.{Refusal}
 use Rattle.rules.specs.Accepted.{mostRuleBytes}
 use Rattle.rules.specs.Loading.{Reading, accepted, refused, readRule}
 use Rattle.makers.specs.declared.make.Which.{Which}

@@ -3,7 +3,7 @@
 use mathlib.Core.Path.{_≡_}
 use mathlib.Core.List.{List}
 use Prim.Native.Nat.{ℕ}
-use Rattle.reading.specs.Frames.{Clip}
+use Rattle.ground.specs.Frames.{Clip}
 use Rattle.rules.specs.Formula.{Formula, horizon}
 use Rattle.rules.specs.Loading.{Items, accepted, readRule}
 use Rattle.rules.specs.Meaning.{Holds}

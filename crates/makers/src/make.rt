@@ -5,8 +5,8 @@ ghost use mathlib.Core.List.{_++_};
 ghost use Prim.Native.Nat.{_+_, _≤_};
 ghost use lib.ListN.{length, take};
 ghost use Rattle.makers.specs.Making.{negation, conjunction, disjunction, nextFrame, mostOperator, mostNew, whichOf, MakesNew, MakesOne, MakesTwo};
-use reading::buffer::write_bytes;
-use reading::refusal::Refusal;
+use ground::buffer::write_bytes;
+use ground::refusal::Refusal;
 use rules::load::Loaded;
 use rules::load::load;
 

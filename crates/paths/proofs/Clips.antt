@@ -8,9 +8,9 @@ use native.Mathlib.Decide.{decLt}
 use native.Mathlib.Omega.{arith}
 use lib.ListN.{length, length-append, List·getD-append}
 use lib.Seq.{getD-append-seam}
-use Rattle.reading.specs.Buffers.{AllBytes}
-use Rattle.reading.specs.Frames.{Clip}
-use Rattle.paths.specs.Searching.{clipAt, frameBytes, Searching}
+use Rattle.ground.specs.Buffers.{AllBytes}
+use Rattle.ground.specs.Frames.{Clip}
+use Rattle.paths.specs.Inner.Searching.{clipAt, frameBytes, Searching}
 
 module _ (clips : List Clip) (c : Clip) where
   pub length-more : length (clips ++ c ∷ []) ≡ length clips + 1

@@ -5,8 +5,8 @@ use mathlib.Core.List.{List, [], _∷_}
 use Prim.Native.Nat.{ℕ, zero, suc, _≤_, _<_}
 use native.Mathlib.Omega.{arith}
 use lib.ListN.{length, getD}
-use Rattle.reading.proofs.Each.{each-at}
-use Rattle.reading.specs.Frames.{Clip}
+use Rattle.ground.proofs.Each.{each-at}
+use Rattle.ground.specs.Frames.{Clip}
 use Rattle.paths.specs.Answers.{Short, Distinct, Counts, Outnumber}
 
 -- A list without the element at a place

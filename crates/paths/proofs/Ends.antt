@@ -10,12 +10,12 @@ use native.Mathlib.Nat.{eq-or-lt-of-le}
 use native.Mathlib.Omega.{arith}
 use lib.ListN.{length, take}
 use lib.Seq.{length-take-le, getD-take}
-use Rattle.reading.specs.Buffers.{AllBytes}
-use Rattle.reading.specs.Frames.{Clip}
-use Rattle.reading.proofs.Each.{each-of}
+use Rattle.ground.specs.Buffers.{AllBytes}
+use Rattle.ground.specs.Frames.{Clip}
+use Rattle.ground.proofs.Each.{each-of}
 use Rattle.paths.specs.Order.{Less}
 use Rattle.paths.specs.Answers.{Satisfying, Short, Counts, met, none, noRoom, Right}
-use Rattle.paths.specs.Searching.{Stepwise, clipAt, frameBytes, Stored, Searching}
+use Rattle.paths.specs.Inner.Searching.{Stepwise, clipAt, frameBytes, Stored, Searching}
 use Rattle.paths.proofs.Order.{less-not, less-trans, less-length}
 use Rattle.paths.proofs.Counting.{empty-short}
 use Rattle.paths.proofs.Clips.{length-more, at-more, pairs-more, longest, trial-length, trial-bytes}

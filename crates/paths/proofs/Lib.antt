@@ -5,5 +5,4 @@ pub mod Unique
 pub mod Clips
 pub mod Turns
 pub mod Ends
-pub mod Chains
 pub mod Model

@@ -7,7 +7,7 @@ use native.Mathlib.Nat.{suc-add}
 use native.Mathlib.Decide.{decLt}
 use native.Mathlib.Omega.{arith}
 use lib.ListN.{length, getD, drop}
-use Rattle.reading.specs.Frames.{Clip}
+use Rattle.ground.specs.Frames.{Clip}
 use Rattle.paths.specs.Order.{Less}
 
 -- At the last place where two clips differ, the one has the smaller frame

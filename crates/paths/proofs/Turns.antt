@@ -8,10 +8,10 @@ use Prim.Native.Nat.{ℕ, zero, suc, _+_, _≤_, _<_}
 use native.Mathlib.Decide.{decLt}
 use native.Mathlib.Omega.{arith}
 use lib.ListN.{length}
-use Rattle.reading.specs.Buffers.{AllBytes}
-use Rattle.reading.specs.Frames.{Clip}
+use Rattle.ground.specs.Buffers.{AllBytes}
+use Rattle.ground.specs.Frames.{Clip}
 use Rattle.paths.specs.Order.{Less}
-use Rattle.paths.specs.Searching.{clipAt, frameBytes, Tried, Stored, Spare, Searching}
+use Rattle.paths.specs.Inner.Searching.{clipAt, frameBytes, Tried, Stored, Spare, Searching}
 use Rattle.paths.proofs.Order.{less-trans, shorter-less}
 use Rattle.paths.proofs.Clips.{length-more, old-at, new-at, at-more, pairs-more, longest, trial-length, trial-bytes}
 

@@ -5,8 +5,8 @@ use mathlib.Core.List.{List, [], _∷_}
 use mathlib.Core.Logic.{_⊎_, inl, inr, _↔_}
 use Prim.Native.Nat.{ℕ}
 use native.Mathlib.Omega.{arith}
-use Rattle.reading.specs.Frames.{Clip}
-use Rattle.reading.proofs.Each.{each-then}
+use Rattle.ground.specs.Frames.{Clip}
+use Rattle.ground.proofs.Each.{each-then}
 use Rattle.paths.specs.Order.{Less}
 use Rattle.paths.specs.Answers.{Satisfying, First, Short, Distinct, Counts, Answer, met, none, noRoom, Right}
 use Rattle.paths.proofs.Order.{less-or}

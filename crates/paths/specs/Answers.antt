@@ -6,9 +6,9 @@ use mathlib.Core.Path.{_≡_}
 use mathlib.Core.List.{List, []}
 use Prim.Native.Nat.{ℕ, _≤_, _<_}
 use lib.ListN.{length, getD}
-use Rattle.reading.specs.Buffers.{AllBytes}
-use Rattle.reading.specs.Each.{Each}
-use Rattle.reading.specs.Frames.{Clip}
+use Rattle.ground.specs.Buffers.{AllBytes}
+use Rattle.ground.specs.Each.{Each}
+use Rattle.ground.specs.Frames.{Clip}
 use Rattle.paths.specs.Order.{Less}
 
 -- A satisfying clip: one or more frames, each a byte

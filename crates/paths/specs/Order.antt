@@ -4,7 +4,7 @@ use mathlib.Core.Path.{_≡_}
 use mathlib.Core.List.{[], _∷_}
 use mathlib.Core.Logic.{_⊎_}
 use Prim.Native.Nat.{_<_}
-use Rattle.reading.specs.Frames.{Clip}
+use Rattle.ground.specs.Frames.{Clip}
 
 -- A clip comes before another: it is shorter, or as long and the first when frames are compared from the last backwards. The frame that is compared last is the head.
 unfoldable pub Less : Clip → Clip → Type 0

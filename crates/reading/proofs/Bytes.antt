@@ -12,17 +12,17 @@ use borrow.Author.Tests.{lt-ltb, le-ltb, le-leb, lt-leb, ne-eqb, eqb-false, leb-
 use lib.Dec.{eqb, leb}
 use lib.ListN.{length, getD, take, drop, length-append, length-drop, length-take}
 use lib.Seq.{drop-drop, drop-append-seam, append-snoc, getD-drop, take-at}
-use Rattle.reading.specs.Buffers.{AllBytes}
-use Rattle.reading.specs.Limits.{limits}
+use Rattle.ground.specs.Buffers.{AllBytes}
+use Rattle.ground.specs.Limits.{limits}
 use Rattle.reading.specs.Numbers.{firstByte, secondByte, numberAt, numberBytes}
 use Rattle.reading.specs.Items.{codeFirst, itemAt, withNumber, numbersFrom, numbersOf, noCode, numbersBytes, itemBytes}
-use Rattle.reading.specs.Padded.{padded}
+use Rattle.ground.specs.Padded.{padded}
 use Rattle.reading.specs.declared.number.Number.{Number}
 use Rattle.reading.specs.declared.number.Number.the-variants.{Value, Short, Long}
 use Rattle.reading.specs.declared.item.Table.{Table}
 use Rattle.reading.specs.declared.item.Read.{Read}
 use Rattle.reading.specs.declared.item.Read.the-variants.{Item}
-use Rattle.reading.proofs.Padded.{getD-padded}
+use Rattle.ground.proofs.Padded.{getD-padded}
 
 -- at a place of some bytes stand these bytes, and `next` is the place behind them
 pub record Stands (bytes : List ℕ) (at : ℕ) (own : List ℕ) (next : ℕ) : Type 0 where

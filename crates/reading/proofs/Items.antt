@@ -1,4 +1,4 @@
--- Laws of `numbersFrom` and `itemAt`. `Reading` is where `read_numbers` stands: what it has read is in its array, and the rest, read from here on, makes the item.
+-- Laws of `numbersFrom` and `itemAt`. `ReadingNumbers` is where `read_numbers` stands: what it has read is in its array, and the rest, read from here on, makes the item.
 use mathlib.Core.Path.{_≡_, refl, sym, subst}
 use mathlib.Core.List.{List, [], _∷_, _++_}
 use mathlib.Core.Logic.{by-cases}
@@ -9,33 +9,33 @@ use native.Mathlib.Omega.{arith}
 use borrow.Author.Tests.{le-leb, lt-leb, ne-eqb}
 use lib.ListN.{length, getD, set, replicate, length-append, drop-of-length-le}
 use lib.Seq.{drop-cons}
-use Rattle.reading.specs.Each.{Each}
-use Rattle.reading.specs.Items.{Row, look, itemAt, numbersFrom, numbersOf, noCode, withNumber}
+use Rattle.ground.specs.Each.{Each}
+use Rattle.reading.specs.Items.{CodeRow, look, itemAt, numbersFrom, numbersOf, noCode, withNumber}
 use Rattle.reading.specs.Numbers.{numberAt}
-use Rattle.reading.specs.Padded.{padded}
-use Rattle.reading.specs.Refusals.{placeOf}
+use Rattle.ground.specs.Padded.{padded}
+use Rattle.ground.specs.Refusals.{placeOf}
 use Rattle.reading.specs.declared.item.Table.{Table}
 use Rattle.reading.specs.declared.item.Read.{Read}
 use Rattle.reading.specs.declared.item.Read.the-variants.{Item, End, Refused}
 use Rattle.reading.specs.declared.number.Number.{Number}
 use Rattle.reading.specs.declared.number.Number.the-variants.{Value, Short, Long}
-use Rattle.reading.specs.declared.refusal.Refusal.{Refusal}
-use Rattle.reading.specs.declared.refusal.Refusal.the-variants.{UnknownCode, CutShort, NotShortest}
-use Rattle.reading.proofs.Padded.{padded-none, set-padded, getD-padded}
+use Rattle.ground.specs.declared.refusal.Refusal.{Refusal}
+use Rattle.ground.specs.declared.refusal.Refusal.the-variants.{UnknownCode, CutShort, NotShortest}
+use Rattle.ground.proofs.Padded.{padded-none, set-padded, getD-padded}
 
 module _ (bytes : List ℕ) (at code count : ℕ) where
   -- k numbers are read, and the next one would stand at `next`
-  pub record Reading (numbers : List ℕ) (next k : ℕ) : Type 0 where
+  pub record ReadingNumbers (numbers : List ℕ) (next k : ℕ) : Type 0 where
     pub read : List ℕ
     pub so-many : k ≡ length read
     pub within : k ≤ count
     pub array : numbers ≡ padded 3 read
     pub rest : numbersFrom (count - k) bytes at code read next ≡ numbersFrom count bytes at code [] (at + 1)
 
-  pub start : Reading (replicate 3 0) (at + 1) 0
+  pub start : ReadingNumbers (replicate 3 0) (at + 1) 0
   start = record { read = []; so-many = refl; within = omega arith; array = sym (padded-none 3); rest = rw sub-zero }
 
-  module _ {numbers : List ℕ} {next k : ℕ} (r : Reading numbers next k) where
+  module _ {numbers : List ℕ} {next k : ℕ} (r : ReadingNumbers numbers next k) where
     -- the item, once all numbers are read
     pub whole : count ≤ k → Item code (getD numbers 0 0) (getD numbers 1 0) (getD numbers 2 0) next ≡ numbersFrom count bytes at code [] (at + 1)
     unfolding numbersFrom
@@ -48,7 +48,7 @@ module _ (bytes : List ℕ) (at code count : ℕ) where
       one-more = omega arith
 
       -- one more number
-      pub more : (n behind : ℕ) → count < noCode → Value n behind ≡ numberAt bytes next → Reading (set numbers k n) behind (k + 1)
+      pub more : (n behind : ℕ) → count < noCode → Value n behind ≡ numberAt bytes next → ReadingNumbers (set numbers k n) behind (k + 1)
       unfolding numbersFrom
       more n behind small e =
           record {
@@ -119,7 +119,7 @@ module _ (table : Table) (bytes : List ℕ) (at : ℕ) where
       (λ h. let u : End ≡ itemAt table bytes at = ended table bytes at (omega arith) in absurd (let z : _≡_ {A = ℕ} 0 1 = cc in omega arith))
 
 -- what holds of each code of a table holds of each code that the table knows
-pub by-row : (P : ℕ → Type 0) (rows : List Row) → Each (λ r. P (r .code)) rows → (code : ℕ) → look code rows < noCode → P code
+pub by-row : (P : ℕ → Type 0) (rows : List CodeRow) → Each (λ r. P (r .code)) rows → (code : ℕ) → look code rows < noCode → P code
 unfolding look
 by-row P [] e code known = absurd (omega arith)
 by-row P (r ∷ rows) e code known =

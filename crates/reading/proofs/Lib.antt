@@ -1,13 +1,7 @@
 -- Laws of the definitions, for this crate's functions and those of the crates above; `Held` is what the reader's proofs share.
 pub mod Numbers
-pub mod Padded
-pub mod Written
-pub mod Refusals
-pub mod Choices
 pub mod Items
 pub mod Bytes
 pub mod Unique
 pub mod InTurn
-pub mod Each
-pub mod Buffers
 mod Held

@@ -12,7 +12,7 @@ use lib.Dec.{eqb, leb}
 use lib.ListN.{length, getD, drop-of-length-le}
 use lib.Seq.{drop-cons}
 use Rattle.reading.specs.Numbers.{numberAt, numberBytes}
-use Rattle.reading.specs.Limits.{limits}
+use Rattle.ground.specs.Limits.{limits}
 use Rattle.reading.specs.declared.number.Number.the-variants.{Value, Short, Long}
 
 -- behind the last byte

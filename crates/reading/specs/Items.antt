@@ -10,34 +10,34 @@ use Rattle.reading.specs.Numbers.{numberAt, numberBytes}
 use Rattle.reading.specs.declared.number.Number.{Number}
 use Rattle.reading.specs.declared.item.Table.{Table}
 use Rattle.reading.specs.declared.item.Read.{Read}
-use Rattle.reading.specs.declared.refusal.Refusal.{Refusal}
+use Rattle.ground.specs.declared.refusal.Refusal.{Refusal}
 
 -- A row of a table of codes: the code byte, and how many numbers follow it
-pub record Row : Type 0 where
+pub record CodeRow : Type 0 where
   pub code : ℕ
   pub numbers : ℕ
 
 -- A row, written short
-abbrev pub row : ℕ → ℕ → Row
-row code numbers = record { code = code; numbers = numbers }
+abbrev pub codeRow : ℕ → ℕ → CodeRow
+codeRow code numbers = record { code = code; numbers = numbers }
 
 -- The codes of rules
-unfoldable pub ruleCodes : List Row
+unfoldable pub ruleCodes : List CodeRow
 ruleCodes =
-    row 0x10 0 ∷ row 0x11 0 ∷ row 0x12 1 ∷ row 0x20 0 ∷ row 0x21 0 ∷ row 0x22 0 ∷ row 0x30 2 ∷ row 0x31 2 ∷ row 0x32 2 ∷ row 0x33 2 ∷ []
+    codeRow 0x10 0 ∷ codeRow 0x11 0 ∷ codeRow 0x12 1 ∷ codeRow 0x20 0 ∷ codeRow 0x21 0 ∷ codeRow 0x22 0 ∷ codeRow 0x30 2 ∷ codeRow 0x31 2 ∷ codeRow 0x32 2 ∷ codeRow 0x33 2 ∷ []
 
 -- The codes of instructions
-unfoldable pub instructionCodes : List Row
-instructionCodes = row 0x01 0 ∷ row 0x02 1 ∷ row 0x03 2 ∷ row 0x04 3 ∷ row 0x05 2 ∷ []
+unfoldable pub instructionCodes : List CodeRow
+instructionCodes = codeRow 0x01 0 ∷ codeRow 0x02 1 ∷ codeRow 0x03 2 ∷ codeRow 0x04 3 ∷ codeRow 0x05 2 ∷ []
 
 -- What stands for the number of numbers where a code byte is unknown: more than any item has
 abbrev pub noCode : ℕ
 noCode = 4
 
 -- How many numbers follow a code byte
-unfoldable pub look : ℕ → List Row → ℕ
+unfoldable pub look : ℕ → List CodeRow → ℕ
 look code [] = noCode
-look code (row ∷ rows) = cond (eqb code (row .code)) (row .numbers) (look code rows)
+look code (codeRow ∷ rows) = cond (eqb code (codeRow .code)) (codeRow .numbers) (look code rows)
 
 -- The same by table: rules and code have separate ones
 abbrev pub numbersOf : Table → ℕ → ℕ

@@ -1,11 +1,11 @@
 -- Numbers as bytes. Document 01: "Numbers are in groups of seven bits, lowest group first; the top bit of a byte says that another follows. The shortest form
 -- only, at most two bytes (0 to 16,383)." A number is read byte by byte: where the bytes end first it is cut short.
-use mathlib.Core.Bool.{Bool, cond, _||_}
-use mathlib.Core.List.{List, [], _∷_, _++_}
+use mathlib.Core.Bool.{cond, _||_}
+use mathlib.Core.List.{List, [], _∷_}
 use Prim.Native.Nat.{ℕ, _+_, _-_, _*_, _/_, _%_}
 use lib.Dec.{ltb, leb, eqb}
-use lib.ListN.{length, take, drop}
-use Rattle.reading.specs.Limits.{limits}
+use lib.ListN.{drop}
+use Rattle.ground.specs.Limits.{limits}
 use Rattle.reading.specs.declared.number.Number.{Number}
 
 -- A number whose first byte, at place `at`, is `low` with its top bit set: a second byte of 0 is not shortest, and one with its top bit set is not allowed
@@ -25,16 +25,3 @@ numberAt bytes at = firstByte at (drop at bytes)
 -- The bytes of a number in its shortest form; a number above the greatest has none
 unfoldable pub numberBytes : ℕ → List ℕ
 numberBytes n = cond (ltb n 128) (n ∷ []) (cond (leb n (limits .number)) ((n % 128 + 128) ∷ (n / 128) ∷ []) [])
-
--- Whether some bytes fit into a buffer from place `at` on
-abbrev pub fits : List ℕ → ℕ → List ℕ → Bool
-fits buffer at bytes = leb (at + length bytes) (length buffer)
-
--- A buffer after some bytes are written into it from place `at` on: unchanged where they don't fit
-unfoldable pub written : List ℕ → ℕ → List ℕ → List ℕ
-written buffer at bytes =
-    cond (fits buffer at bytes) (take at buffer ++ bytes ++ drop (at + length bytes) buffer) buffer
-
--- The place behind what was written
-unfoldable pub placeAfter : List ℕ → ℕ → List ℕ → ℕ
-placeAfter buffer at bytes = cond (fits buffer at bytes) (at + length bytes) at

@@ -6,7 +6,7 @@ ghost use lib.ListN.{length};
 ghost use Rattle.reading.specs.Items.{itemAt, numbersFrom, noCode, numbersOf, look, ruleCodes, instructionCodes};
 use crate::number::Number;
 use crate::number::read_number;
-use crate::refusal::Refusal;
+use ground::refusal::Refusal;
 
 // Rules and code have separate tables of code bytes.
 pub enum Table {

@@ -1,8 +1,10 @@
 // Numbers: groups of seven bits, lowest group first, the shortest form only, one or two bytes.
 ghost use mathlib.Core.Path.{_≡_};
 ghost use Prim.Native.Nat.{_<_};
-ghost use Rattle.reading.specs.Numbers.{numberAt, numberBytes, written, placeAfter};
-use crate::limits::MOST_NUMBER;
+ghost use Rattle.reading.specs.Numbers.{numberAt, numberBytes};
+ghost use Rattle.ground.specs.Buffers.{written, placeAfter};
+use ground::byte::wide;
+use ground::limits::MOST_NUMBER;
 
 // What stands at a place: a number and the place after it, or the fault.
 pub enum Number {
@@ -15,13 +17,6 @@ pub enum Number {
 
 // How many values a group of seven bits has; as a byte, the top bit that says that another group follows.
 const GROUP: u16 = 128;
-
-// A byte as a number.
-pub fn wide(byte: u8) -> u16
-    ensures { λ r. ⌜ (r ≡ byte) × (r < 256) ⌝ }
-{
-    byte as u16
-}
 
 // Reads the number at a place, which may be the end or lie behind it.
 pub fn read_number(bytes: &[u8], at: usize) -> Number

@@ -5,20 +5,20 @@ use mathlib.Core.List.{List, [], _∷_, _++_, append-assoc}
 use Prim.Native.Nat.{ℕ, _≤_}
 use native.Mathlib.Omega.{arith}
 use lib.ListN.{length}
-use Rattle.reading.specs.Buffers.{AllBytes}
-use Rattle.reading.specs.InTurn.{Verdict, Walked, walked}
-use Rattle.reading.specs.declared.refusal.Refusal.{Refusal}
-use Rattle.reading.proofs.InTurn.{walked-back}
+use Rattle.ground.specs.Buffers.{AllBytes}
+use Rattle.reading.specs.InTurn.{Outcome, AllRead, readAll}
+use Rattle.ground.specs.declared.refusal.Refusal.{Refusal}
+use Rattle.reading.proofs.InTurn.{all-back}
 use Rattle.rules.specs.Accepted.{IsRule, mostRuleBytes}
 use Rattle.rules.specs.Formula.{Formula, True, False, Flag, Not, And, Or, Until, Release, Eventually, Globally, horizon}
-use Rattle.rules.specs.Good.{Good, postfix, postfixes}
-use Rattle.rules.specs.Items.{apply, bytesOf, ruleBytes}
-use Rattle.rules.specs.Loading.{Items, Reading, accepted, refused, loadedOf, oneValue, atEnd, verdictOf, ruleKind, judgeOf, countsOf, stackFrom, stackOf, readRule}
+use Rattle.rules.specs.Inner.Good.{GoodItems, postfixes}
+use Rattle.rules.specs.Items.{postfix, apply, bytesOfItem, ruleBytes}
+use Rattle.rules.specs.Loading.{Items, Reading, accepted, refused, loadedOf, oneValue, atEnd, itemOutcome, ruleKind, checkItem, ruleCounts, stackFrom, stackOf, readRule}
 use Rattle.rules.specs.declared.item.Item.{Item}
-use Rattle.rules.specs.declared.judge.Judged.{Judged}
+use Rattle.rules.specs.declared.check.CheckedItem.{CheckedItem}
 use Rattle.rules.specs.declared.load.Loaded.{Loaded}
 use Rattle.rules.proofs.Good.{good-none, good-more}
-use Rattle.rules.proofs.Judging.{fine}
+use Rattle.rules.proofs.Checking.{fine}
 use Rattle.rules.proofs.RuleBytes.{item-bytes, rule-length}
 
 -- a refusal is no acceptance
@@ -49,37 +49,37 @@ one-formula f g e =
     cc
 
 -- the end of a walk that is accepted: it gives the items, and these make the formula
-at-end : (n : ℕ) (w : Walked Item) (is : Items) (f : Formula) → atEnd n w ≡ accepted is f → (w ≡ Walked.items is) × (stackOf is ≡ f ∷ [])
-at-end n (Walked.items js) is f e = go (stackOf js) refl e
+at-end : (n : ℕ) (w : AllRead Item) (is : Items) (f : Formula) → atEnd n w ≡ accepted is f → (w ≡ AllRead.items is) × (stackOf is ≡ f ∷ [])
+at-end n (AllRead.items js) is f e = go (stackOf js) refl e
   where
-    go : (st : List Formula) → stackOf js ≡ st → oneValue n js st ≡ accepted is f → (Walked.items js ≡ Walked.items is) × (stackOf is ≡ f ∷ [])
+    go : (st : List Formula) → stackOf js ≡ st → oneValue n js st ≡ accepted is f → (AllRead.items js ≡ AllRead.items is) × (stackOf is ≡ f ∷ [])
     go [] v e = differ e
     go (g ∷ []) v e = (cc, cc)
     go (g ∷ h ∷ st) v e = differ e
-at-end n (Walked.refused r) is f e = differ e
+at-end n (AllRead.refused r) is f e = differ e
 
 -- an item that is judged fine keeps the items good
-pub good-on : (is : Items) (at : ℕ) (i : Item) → Good is → ruleKind .judge is at i ≡ Verdict.fine → Good (is ++ i ∷ [])
-good-on is at i g e = go (judgeOf (countsOf is) at i) refl e
+pub good-on : (is : Items) (at : ℕ) (i : Item) → GoodItems is → ruleKind .check is at i ≡ Outcome.fine → GoodItems (is ++ i ∷ [])
+good-on is at i g e = go (checkItem (ruleCounts is) at i) refl e
   where
-    go : (d : Judged) → judgeOf (countsOf is) at i ≡ d → verdictOf d ≡ Verdict.fine → Good (is ++ i ∷ [])
-    go (Judged.Next c) j e = good-more is i c g (fine (countsOf is) at i c j)
-    go (Judged.Refused r) j e = absurd (let z : _≡_ {A = ℕ} 0 1 = cc in omega arith)
+    go : (d : CheckedItem) → checkItem (ruleCounts is) at i ≡ d → itemOutcome d ≡ Outcome.fine → GoodItems (is ++ i ∷ [])
+    go (CheckedItem.Next c) j e = good-more is i c g (fine (ruleCounts is) at i c j)
+    go (CheckedItem.Refused r) j e = absurd (let z : _≡_ {A = ℕ} 0 1 = cc in omega arith)
 
 -- good items are short
-pub good-short : (is : Items) → Good is → length (ruleBytes is) ≤ mostRuleBytes
-unfolding countsOf
+pub good-short : (is : Items) → GoodItems is → length (ruleBytes is) ≤ mostRuleBytes
+unfolding ruleCounts
 good-short is g = omega (arith, rule-length is (g .ranges), g .within .items, g .within .timed)
 
 -- the items that are read are good, and their bytes are all the bytes
-pub items-read : (bytes : List ℕ) (is : Items) → AllBytes bytes → walked ruleKind bytes ≡ Walked.items is → Good is × (bytes ≡ ruleBytes is) × (1 ≤ length is)
-items-read = walked-back ruleKind bytesOf Good good-none good-on (λ code i j k known. item-bytes code known i j k)
+pub items-read : (bytes : List ℕ) (is : Items) → AllBytes bytes → readAll ruleKind bytes ≡ AllRead.items is → GoodItems is × (bytes ≡ ruleBytes is) × (1 ≤ length is)
+items-read = all-back ruleKind bytesOfItem GoodItems good-none good-on (λ code i j k known. item-bytes code known i j k)
 
 -- The rule that is accepted
 pub accepted-rule : (bytes : List ℕ) (is : Items) (f : Formula) → AllBytes bytes → readRule bytes ≡ accepted is f → IsRule bytes is f
-unfolding readRule countsOf postfixes
+unfolding readRule ruleCounts postfixes
 accepted-rule bytes is f small e =
-    let (w, value) = at-end (length bytes) (walked ruleKind bytes) is f e in
+    let (w, value) = at-end (length bytes) (readAll ruleKind bytes) is f e in
     let (g, all, some) = items-read bytes is small w in
     let near = rw value at (g .near) in
     record {

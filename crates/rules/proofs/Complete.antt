@@ -6,41 +6,41 @@ use Prim.Native.Nat.{ℕ, _+_, _≤_, _<_}
 use native.Mathlib.Omega.{arith}
 use borrow.Author.Tests.{le-ltb}
 use lib.ListN.{length, take, length-append}
-use Rattle.reading.specs.Each.{Each}
-use Rattle.reading.proofs.Each.{each-then}
-use Rattle.reading.specs.InTurn.{walked}
+use Rattle.ground.specs.Each.{Each}
+use Rattle.ground.proofs.Each.{each-then}
+use Rattle.reading.specs.InTurn.{readAll}
 use Rattle.reading.specs.Items.{numbersOf, noCode, look, ruleCodes}
-use Rattle.reading.specs.Limits.{limits}
-use Rattle.reading.specs.Padded.{padded}
+use Rattle.ground.specs.Limits.{limits}
+use Rattle.ground.specs.Padded.{padded}
 use Rattle.reading.specs.declared.item.Table.{Table}
-use Rattle.reading.proofs.InTurn.{Numbered, Passes, walked-there}
-use Rattle.rules.specs.Accepted.{IsRule}
+use Rattle.reading.proofs.InTurn.{Numbered, Passes, all-there}
+use Rattle.rules.specs.Accepted.{IsRule, InRange}
 use Rattle.rules.specs.Formula.{Formula, True, False, Flag, Not, And, Or, Until, Release, Eventually, Globally}
-use Rattle.rules.specs.Good.{InRange, Fine, postfix}
-use Rattle.rules.specs.Items.{rowOf, itemOf, apply, bytesOf}
-use Rattle.rules.specs.Loading.{Items, accepted, atEnd, verdictOf, ruleKind, judgeOf, badWindow, tooLarge, countsOf, countedOf, stackFrom, stackOf, timedIn, lowerIn, readRule}
+use Rattle.rules.specs.Inner.Good.{FineItem}
+use Rattle.rules.specs.Items.{postfix, rowOfItem, itemOf, apply, bytesOfItem}
+use Rattle.rules.specs.Loading.{Items, accepted, atEnd, itemOutcome, ruleKind, checkItem, badWindow, ruleTooLarge, ruleCounts, ruleCounted, stackFrom, stackOf, timedIn, lowerIn, readRule}
 use Rattle.rules.specs.declared.item.Item.{Item}
-use Rattle.rules.specs.declared.judge.Counts.{Counts}
-use Rattle.rules.specs.declared.judge.Judged.{Judged}
+use Rattle.rules.specs.declared.check.RuleCounts.{RuleCounts}
+use Rattle.rules.specs.declared.check.CheckedItem.{CheckedItem}
 use Rattle.rules.proofs.Accepted.{made}
 use Rattle.rules.proofs.RuleBytes.{item-bytes}
 use Rattle.rules.proofs.Stack.{stack-more, timed-more, lower-more}
 
 -- the numbers behind an item's code byte, of which the item is made
-numbers : {i : Item} (x y : ℕ) → (numbersOf Table.Rule (rowOf i .code) < noCode) × (x ≤ limits .bound) × (y ≤ limits .bound)
-    → x ∷ y ∷ 0 ∷ [] ≡ padded 3 (take (numbersOf Table.Rule (rowOf i .code)) (x ∷ y ∷ 0 ∷ [])) → itemOf (rowOf i .code) x x y ≡ i → Numbered ruleKind bytesOf i
+numbers : {i : Item} (x y : ℕ) → (numbersOf Table.Rule (rowOfItem i .code) < noCode) × (x ≤ limits .bound) × (y ≤ limits .bound)
+    → x ∷ y ∷ 0 ∷ [] ≡ padded 3 (take (numbersOf Table.Rule (rowOfItem i .code)) (x ∷ y ∷ 0 ∷ [])) → itemOf (rowOfItem i .code) x x y ≡ i → Numbered ruleKind bytesOfItem i
 numbers {i} x y small lacks makes =
     record {
-      code = rowOf i .code;
+      code = rowOfItem i .code;
       first = x;
       second = y;
       third = 0;
       fits = record { known = small .0; first = omega arith; second = omega arith; third = omega arith; lacks = lacks };
       makes = makes;
-      same = item-bytes (rowOf i .code) (small .0) x y 0 ∙ ap bytesOf makes;
+      same = item-bytes (rowOfItem i .code) (small .0) x y 0 ∙ ap bytesOfItem makes;
     }
 
-pub numbered : (i : Item) → InRange i → Numbered ruleKind bytesOf i
+pub numbered : (i : Item) → InRange i → Numbered ruleKind bytesOfItem i
 unfolding look ruleCodes padded itemOf
 numbered Item.True r = numbers 0 0 (omega arith) refl refl
 numbered Item.False r = numbers 0 0 (omega arith) refl refl
@@ -54,14 +54,14 @@ numbered (Item.Eventually a b) r = numbers a b (omega arith) refl refl
 numbered (Item.Globally a b) r = numbers a b (omega arith) refl refl
 
 -- an item that passes each test is not refused
-passed : (c : Counts) (at : ℕ) (i : Item) → Fine c i (countedOf c (rowOf i)) → judgeOf c at i ≡ Judged.Next (countedOf c (rowOf i))
-unfolding judgeOf badWindow tooLarge
+passed : (c : RuleCounts) (at : ℕ) (i : Item) → FineItem c i (ruleCounted c (rowOfItem i)) → checkItem c at i ≡ CheckedItem.Next (ruleCounted c (rowOfItem i))
+unfolding checkItem badWindow ruleTooLarge
 passed c at i f = simp (le-ltb, f .ranges .flag, f .ranges .window, f .ranges .bound, f .operands, f .items, f .timed, f .lower)
 
 -- each item finds its operands among the values before it
 abbrev pub Enough : List Formula → Items → Type 0
 Enough st [] = Unit {0}
-Enough st (i ∷ is) = (rowOf i .operands ≤ length st) × Enough (apply i st) is
+Enough st (i ∷ is) = (rowOfItem i .operands ≤ length st) × Enough (apply i st) is
 
 -- so do the items of a formula
 pub enough : (f : Formula) (st : List Formula) (is : Items) → Enough (f ∷ st) is → Enough st (postfix f ++ is)
@@ -87,10 +87,10 @@ record Ahead (is js : Items) : Type 0 where
 
 -- so each is fine in its turn
 passes : (is js : Items) → Ahead is js → Passes ruleKind is js
-unfolding countsOf countedOf timedIn lowerIn
+unfolding ruleCounts ruleCounted timedIn lowerIn
 passes is [] a = tt
 passes is (i ∷ js) a =
-    let f : Fine (countsOf is) i (countedOf (countsOf is) (rowOf i)) =
+    let f : FineItem (ruleCounts is) i (ruleCounted (ruleCounts is) (rowOfItem i)) =
     record {
       ranges = a .ranges .0;
       operands = a .operands .0;
@@ -107,7 +107,7 @@ passes is (i ∷ js) a =
       timed = rw timed-more (omega arith);
       lower = rw lower-more (omega arith);
     } in
-    (λ at. ap verdictOf (passed (countsOf is) at i f), passes (is ++ i ∷ []) js less)
+    (λ at. ap itemOutcome (passed (ruleCounts is) at i f), passes (is ++ i ∷ []) js less)
 
 -- The rule that is read
 pub rule-accepted : (bytes : List ℕ) (is : Items) (f : Formula) → IsRule bytes is f → readRule bytes ≡ accepted is f
@@ -122,5 +122,5 @@ rule-accepted bytes is f r =
       timed = omega arith;
       lower = omega arith;
     } in
-    let read = walked-there ruleKind bytesOf is (r .some) (passes [] is a) (each-then InRange (Numbered ruleKind bytesOf) numbered is (r .ranges)) in
-    ap (atEnd (length bytes)) (ap (walked ruleKind) (r .own-bytes) ∙ read) ∙ rw value
+    let read = all-there ruleKind bytesOfItem is (r .some) (passes [] is a) (each-then InRange (Numbered ruleKind bytesOfItem) numbered is (r .ranges)) in
+    ap (atEnd (length bytes)) (ap (readAll ruleKind) (r .own-bytes) ∙ read) ∙ rw value

@@ -4,16 +4,17 @@ use mathlib.Core.List.{List, [], _∷_, _++_, map}
 use Prim.Native.Nat.{ℕ, zero, suc, _*_, _≤_}
 use native.Mathlib.Omega.{arith}
 use lib.ListN.{take, drop}
-use Rattle.reading.specs.Limits.{limits}
+use Rattle.ground.specs.Limits.{limits}
 use Rattle.rules.specs.Formula.{Formula, horizon}
-use Rattle.reading.specs.Each.{Each}
-use Rattle.reading.proofs.Each.{each-more}
-use Rattle.rules.specs.Good.{InRange, Fine, Good, postfixes}
-use Rattle.rules.specs.Items.{rowOf}
-use Rattle.rules.specs.Loading.{Items, stackFrom, stackOf, timedIn, lowerIn, countsOf, countedOf}
-use Rattle.rules.specs.Walking.{largestOf}
+use Rattle.ground.specs.Each.{Each}
+use Rattle.ground.proofs.Each.{each-more}
+use Rattle.rules.specs.Accepted.{InRange}
+use Rattle.rules.specs.Inner.Good.{FineItem, GoodItems, postfixes}
+use Rattle.rules.specs.Items.{rowOfItem}
+use Rattle.rules.specs.Loading.{Items, stackFrom, stackOf, timedIn, lowerIn, ruleCounts, ruleCounted}
+use Rattle.rules.specs.Inner.Walk.{largestOf}
 use Rattle.rules.specs.declared.item.Item.{Item}
-use Rattle.rules.specs.declared.judge.Counts.{Counts}
+use Rattle.rules.specs.declared.check.RuleCounts.{RuleCounts}
 use Rattle.rules.proofs.Stack.{applied, counts-more, stack-more, timed-more}
 
 each-drop : {A : Type 0} (P Q : A → Type 0) (n : ℕ) (xs : List A) → ((x : A) → P x → Q x) → Each P xs → Each Q (drop n xs)
@@ -29,7 +30,7 @@ largest-bound m (suc n) [] e = omega arith
 largest-bound m (suc n) (f ∷ st) e = omega (arith, largest-bound m n st (e .1), e .0)
 
 -- only a timed item has an upper bound
-upper-timed : (i : Item) → InRange i → rowOf i .upper ≤ limits .bound * rowOf i .timed
+upper-timed : (i : Item) → InRange i → rowOfItem i .upper ≤ limits .bound * rowOfItem i .timed
 upper-timed Item.True r = omega arith
 upper-timed Item.False r = omega arith
 upper-timed (Item.Flag k) r = omega arith
@@ -41,17 +42,17 @@ upper-timed (Item.Release a b) r = omega arith
 upper-timed (Item.Eventually a b) r = omega arith
 upper-timed (Item.Globally a b) r = omega arith
 
-pub good-none : Good []
-unfolding stackFrom countsOf timedIn lowerIn postfixes
+pub good-none : GoodItems []
+unfolding stackFrom ruleCounts timedIn lowerIn postfixes
 good-none = record { within = omega arith; ranges = tt; near = tt; whole = refl }
 
-pub good-more : (is : Items) (i : Item) (d : Counts) → Good is → Fine (countsOf is) i d → Good (is ++ i ∷ [])
-unfolding countsOf countedOf postfixes
+pub good-more : (is : Items) (i : Item) (d : RuleCounts) → GoodItems is → FineItem (ruleCounts is) i d → GoodItems (is ++ i ∷ [])
+unfolding ruleCounts ruleCounted postfixes
 good-more is i d g f =
     let a = applied i (stackOf is) (f .operands) in
-    let c : d ≡ countsOf (is ++ i ∷ []) = f .counts ∙ counts-more is i (f .operands) in
+    let c : d ≡ ruleCounts (is ++ i ∷ []) = f .counts ∙ counts-more is i (f .operands) in
     let low = upper-timed i (f .ranges) in
-    let top = largest-bound (limits .bound * timedIn is) (rowOf i .operands) (stackOf is) (g .near) in
+    let top = largest-bound (limits .bound * timedIn is) (rowOfItem i .operands) (stackOf is) (g .near) in
     record {
       within =
           rw (← c)
@@ -64,7 +65,7 @@ good-more is i d g f =
       ranges = each-more InRange is i (g .ranges) (f .ranges);
       near = rw (stack-more, a .gives, timed-more) (
         omega (arith, a .far),
-        rw (a .tail) (each-drop _ _ (rowOf i .operands) (stackOf is) (λ x h. omega arith) (g .near)),
+        rw (a .tail) (each-drop _ _ (rowOfItem i .operands) (stackOf is) (λ x h. omega arith) (g .near)),
       );
       whole = rw (stack-more, a .gives) (a .items ∙ ap (λ js. js ++ i ∷ []) (g .whole));
     }

@@ -10,7 +10,7 @@ use native.Mathlib.Omega.{arith}
 use lib.ListN.{length, take, drop, length-take}
 use lib.Seq.{take-nil, getD-take}
 use Rattle.rules.specs.Formula.{Formula, True, False, Flag, Not, And, Or, Until, Release, Eventually, Globally, horizon}
-use Rattle.reading.specs.Frames.{Clip}
+use Rattle.ground.specs.Frames.{Clip}
 use Rattle.rules.specs.Meaning.{Holds, within, reaches, holds}
 use Rattle.rules.proofs.Agreement.{agreement}
 
@@ -22,10 +22,10 @@ drop-take (suc a) (suc n) [] = rw take-nil
 drop-take (suc a) (suc n) (x ∷ c) = rw suc-sub-suc (drop-take a n c)
 
 -- A test with horizon h: to cut a clip to more than h frames does not change it
-abbrev Looks : ℕ → (Clip → Bool) → Type 0
-Looks h l = (c : Clip) (n : ℕ) → h < n → l (take n c) ≡ l c
+abbrev LooksAhead : ℕ → (Clip → Bool) → Type 0
+LooksAhead h l = (c : Clip) (n : ℕ) → h < n → l (take n c) ≡ l c
 
-module _ {g h : ℕ} {l r : Clip → Bool} (ls : Looks g l) (rs : Looks h r) where
+module _ {g h : ℕ} {l r : Clip → Bool} (ls : LooksAhead g l) (rs : LooksAhead h r) where
   within-take : (k m : ℕ) (d : Clip) → k ≤ m - max g h → within k l r (take m d) ≡ within k l r d
   unfolding within
   within-take zero m d i = refl
@@ -34,7 +34,7 @@ module _ {g h : ℕ} {l r : Clip → Bool} (ls : Looks g l) (rs : Looks h r) whe
   within-take (suc k) (suc m) (x ∷ d) i =
       cc (rs (x ∷ d) (suc m) (omega arith), ls (x ∷ d) (suc m) (omega arith), within-take k m d (omega arith))
 
-  timed : (a b : ℕ) → Looks (b + max g h) (reaches a b l r)
+  timed : (a b : ℕ) → LooksAhead (b + max g h) (reaches a b l r)
   unfolding reaches
   timed a b c n i = rw drop-take (within-take (suc b - a) (n - a) (drop a c) (omega arith))
 

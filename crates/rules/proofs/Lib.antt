@@ -2,7 +2,7 @@
 pub mod Agreement
 pub mod Horizon
 pub mod Stack
-pub mod Judging
+pub mod Checking
 pub mod Good
 pub mod Walking
 pub mod Turns
@@ -14,3 +14,4 @@ pub mod Complete
 pub mod Prefixes
 pub mod Places
 pub mod TooLarge
+pub mod Loaded

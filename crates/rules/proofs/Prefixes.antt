@@ -6,15 +6,15 @@ use Prim.Native.Nat.{ℕ, zero, suc, _+_, _≤_, _<_}
 use native.Mathlib.Omega.{arith}
 use lib.ListN.{length, getD, take}
 use Rattle.rules.specs.Formula.{Formula}
-use Rattle.rules.specs.Good.{postfix, postfixes}
-use Rattle.rules.specs.Items.{rowOf, apply}
+use Rattle.rules.specs.Items.{postfix, rowOfItem, apply}
+use Rattle.rules.specs.Inner.Good.{postfixes}
 use Rattle.rules.specs.Loading.{Items, stackFrom, stackOf}
 use Rattle.rules.specs.declared.item.Item.{Item}
 use Rattle.rules.proofs.Complete.{Enough, enough}
 use Rattle.rules.proofs.Stack.{applied}
 
 -- the operands of an item, and the items of the values before it, behind whatever values stand there
-there-from : (is : Items) (st : List Formula) (k : ℕ) → Enough st is → k < length is → rowOf (getD is k Item.True) .operands ≤ length (stackFrom st (take k is))
+there-from : (is : Items) (st : List Formula) (k : ℕ) → Enough st is → k < length is → rowOfItem (getD is k Item.True) .operands ≤ length (stackFrom st (take k is))
 unfolding stackFrom
 there-from [] st k e h = absurd (omega arith)
 there-from (i ∷ is) st zero e h = e .0
@@ -42,7 +42,7 @@ own-enough : (f : Formula) → Enough [] (postfix f)
 own-enough f = rw append-nil at (enough f [] [] tt)
 
 -- Each item of a formula finds its operands among the values of those before it
-pub operands-there : (f : Formula) (k : ℕ) → k < length (postfix f) → rowOf (getD (postfix f) k Item.True) .operands ≤ length (stackOf (take k (postfix f)))
+pub operands-there : (f : Formula) (k : ℕ) → k < length (postfix f) → rowOfItem (getD (postfix f) k Item.True) .operands ≤ length (stackOf (take k (postfix f)))
 operands-there f k h = there-from (postfix f) [] k (own-enough f) h
 
 -- There are no more values than items

@@ -7,21 +7,21 @@ use borrow.Author.Tests.{lt-ltb}
 use lib.ListN.{length, length-append}
 use Rattle.reading.specs.InTurn.{bytesOfAll}
 use Rattle.reading.specs.Items.{itemBytes, numbersOf, noCode, numbersBytes, look, ruleCodes}
-use Rattle.reading.specs.Limits.{limits}
+use Rattle.ground.specs.Limits.{limits}
 use Rattle.reading.proofs.Items.{by-row}
 use Rattle.reading.proofs.Numbers.{number-length}
 use Rattle.reading.specs.Numbers.{numberBytes}
 use Rattle.reading.specs.declared.item.Table.{Table}
-use Rattle.reading.specs.Each.{Each}
-use Rattle.rules.specs.Good.{InRange}
-use Rattle.rules.specs.Items.{itemOf, rowOf, bytesOf, ruleBytes}
+use Rattle.ground.specs.Each.{Each}
+use Rattle.rules.specs.Accepted.{InRange}
+use Rattle.rules.specs.Items.{itemOf, rowOfItem, bytesOfItem, ruleBytes}
 use Rattle.rules.specs.Loading.{Items, timedIn}
 use Rattle.rules.specs.declared.item.Item.{Item}
 
-pub item-bytes : (code : ℕ) → numbersOf Table.Rule code < noCode → (i j k : ℕ) → itemBytes Table.Rule code i j k ≡ bytesOf (itemOf code i i j)
-unfolding itemBytes numbersBytes look ruleCodes bytesOf itemOf
+pub item-bytes : (code : ℕ) → numbersOf Table.Rule code < noCode → (i j k : ℕ) → itemBytes Table.Rule code i j k ≡ bytesOfItem (itemOf code i i j)
+unfolding itemBytes numbersBytes look ruleCodes bytesOfItem itemOf
 item-bytes =
-    by-row (λ code. (i j k : ℕ) → itemBytes Table.Rule code i j k ≡ bytesOf (itemOf code i i j)) ruleCodes
+    by-row (λ code. (i j k : ℕ) → itemBytes Table.Rule code i j k ≡ bytesOfItem (itemOf code i i j)) ruleCodes
     ((λ i j k. refl), ((λ i j k. refl), ((λ i j k. rw append-nil), ((λ i j k. refl), ((λ i j k. refl), ((λ i j k. refl), ((λ i j k. rw append-nil), ((λ i j k. rw append-nil), ((λ i j k. rw append-nil), ((λ i j k. rw append-nil), tt))))))))))
 
 -- a flag takes one byte
@@ -30,8 +30,8 @@ unfolding numberBytes
 flag-length n h = rw (lt-ltb n 128 (omega arith))
 
 -- an item takes two bytes at most, a timed one three more
-item-length : (i : Item) → InRange i → length (bytesOf i) ≤ 2 + 3 * rowOf i .timed
-unfolding bytesOf
+item-length : (i : Item) → InRange i → length (bytesOfItem i) ≤ 2 + 3 * rowOfItem i .timed
+unfolding bytesOfItem
 item-length Item.True r = omega arith
 item-length Item.False r = omega arith
 item-length (Item.Flag k) r = omega (arith, flag-length k (r .flag))

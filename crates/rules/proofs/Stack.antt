@@ -6,10 +6,10 @@ use native.Mathlib.Omega.{arith}
 use lib.ListN.{length, take, drop, length-append, length-map}
 use lib.Seq.{drop-append-seam, take-at}
 use Rattle.rules.specs.Formula.{Formula, horizon}
-use Rattle.rules.specs.Items.{rowOf, apply}
-use Rattle.rules.specs.Good.{postfix, postfixes}
-use Rattle.rules.specs.Loading.{Items, stackFrom, stackOf, timedIn, lowerIn, countsOf, countedOf}
-use Rattle.rules.specs.Walking.{largestOf}
+use Rattle.rules.specs.Items.{rowOfItem, apply, postfix}
+use Rattle.rules.specs.Inner.Good.{postfixes}
+use Rattle.rules.specs.Loading.{Items, stackFrom, stackOf, timedIn, lowerIn, ruleCounts, ruleCounted}
+use Rattle.rules.specs.Inner.Walk.{largestOf}
 use Rattle.rules.specs.declared.item.Item.{Item}
 
 -- one item more makes its value of the values before it
@@ -29,11 +29,11 @@ unfolding lowerIn
 lower-append [] js = omega arith
 lower-append (i ∷ is) js = omega (arith, lower-append is js)
 
-pub timed-more : (is : Items) (i : Item) → timedIn (is ++ i ∷ []) ≡ timedIn is + rowOf i .timed
+pub timed-more : (is : Items) (i : Item) → timedIn (is ++ i ∷ []) ≡ timedIn is + rowOfItem i .timed
 unfolding timedIn
 timed-more is i = omega (arith, timed-append is (i ∷ []))
 
-pub lower-more : (is : Items) (i : Item) → lowerIn (is ++ i ∷ []) ≡ lowerIn is + rowOf i .lower
+pub lower-more : (is : Items) (i : Item) → lowerIn (is ++ i ∷ []) ≡ lowerIn is + rowOfItem i .lower
 unfolding lowerIn
 lower-more is i = omega (arith, lower-append is (i ∷ []))
 
@@ -42,9 +42,9 @@ pub record Applied (i : Item) (st : List Formula) : Type 0 where
   pub value : Formula
   pub rest : List Formula
   pub gives : apply i st ≡ value ∷ rest
-  pub left : length st ≡ rowOf i .operands + length rest
-  pub tail : rest ≡ drop (rowOf i .operands) st
-  pub far : horizon value ≡ rowOf i .upper + largestOf (take (rowOf i .operands) (map horizon st))
+  pub left : length st ≡ rowOfItem i .operands + length rest
+  pub tail : rest ≡ drop (rowOfItem i .operands) st
+  pub far : horizon value ≡ rowOfItem i .upper + largestOf (take (rowOfItem i .operands) (map horizon st))
   pub items : postfixes rest ++ postfix value ≡ postfixes st ++ i ∷ []
 
 postfixes-append : (taken rest : List Formula) → postfixes (taken ++ rest) ≡ postfixes rest ++ postfixes taken
@@ -53,8 +53,8 @@ postfixes-append [] rest = rw append-nil
 postfixes-append (f ∷ taken) rest = rw (postfixes-append taken rest, append-assoc)
 
 -- by its operands, the last one first
-of : (i : Item) (taken rest : List Formula) (v : Formula) → apply i (taken ++ rest) ≡ v ∷ rest → rowOf i .operands ≡ length taken
-    → horizon v ≡ rowOf i .upper + largestOf (map horizon taken) → postfix v ≡ postfixes taken ++ i ∷ [] → Applied i (taken ++ rest)
+of : (i : Item) (taken rest : List Formula) (v : Formula) → apply i (taken ++ rest) ≡ v ∷ rest → rowOfItem i .operands ≡ length taken
+    → horizon v ≡ rowOfItem i .upper + largestOf (map horizon taken) → postfix v ≡ postfixes taken ++ i ∷ [] → Applied i (taken ++ rest)
 of i taken rest v is o far items =
     record {
       value = v;
@@ -66,7 +66,7 @@ of i taken rest v is o far items =
       items = rw (items, postfixes-append, append-assoc);
     }
 
-pub applied : (i : Item) (st : List Formula) → rowOf i .operands ≤ length st → Applied i st
+pub applied : (i : Item) (st : List Formula) → rowOfItem i .operands ≤ length st → Applied i st
 unfolding apply horizon largestOf postfix postfixes
 applied Item.True st h = of Item.True [] st Formula.True refl refl refl refl
 applied Item.False st h = of Item.False [] st Formula.False refl refl refl refl
@@ -91,13 +91,13 @@ applied (Item.Release a b) (g ∷ []) h = absurd (omega arith)
 applied (Item.Release a b) (g ∷ f ∷ st) h = of (Item.Release a b) (g ∷ f ∷ []) st (Formula.Release a b f g) refl refl (omega arith) (simp append-assoc)
 
 -- with operands enough, the counts with one item more are those of the items with it
-pub counts-more : (is : Items) (i : Item) → rowOf i .operands ≤ countsOf is .depth → countedOf (countsOf is) (rowOf i) ≡ countsOf (is ++ i ∷ [])
-unfolding countsOf countedOf
+pub counts-more : (is : Items) (i : Item) → rowOfItem i .operands ≤ ruleCounts is .depth → ruleCounted (ruleCounts is) (rowOfItem i) ≡ ruleCounts (is ++ i ∷ [])
+unfolding ruleCounts ruleCounted
 counts-more is i h =
     let a = applied i (stackOf is) h in
     let n : length is + 1 ≡ length (is ++ i ∷ []) = simp length-append in
-    let d : length (stackOf is) - rowOf i .operands + 1 ≡ length (stackOf (is ++ i ∷ [])) =
+    let d : length (stackOf is) - rowOfItem i .operands + 1 ≡ length (stackOf (is ++ i ∷ [])) =
     rw (stack-more, a .gives) (omega (arith, a .left)) in
-    let t : timedIn is + rowOf i .timed ≡ timedIn (is ++ i ∷ []) = sym (timed-more is i) in
-    let l : lowerIn is + rowOf i .lower ≡ lowerIn (is ++ i ∷ []) = sym (lower-more is i) in
+    let t : timedIn is + rowOfItem i .timed ≡ timedIn (is ++ i ∷ []) = sym (timed-more is i) in
+    let l : lowerIn is + rowOfItem i .lower ≡ lowerIn (is ++ i ∷ []) = sym (lower-more is i) in
     λ k. record { items = n k; timed = t k; lower = l k; depth = d k }

@@ -6,19 +6,19 @@ use Prim.Native.Nat.{ℕ, zero, suc, _+_, _-_, _*_, _≤_, _<_, max}
 use native.Mathlib.Omega.{arith}
 use lib.ListN.{length, getD, take, drop, set, length-map, length-set, replicate}
 use lib.Seq.{getD-set-same, getD-set-other}
-use Rattle.reading.specs.Limits.{limits}
-use Rattle.reading.specs.Padded.{padded}
-use Rattle.reading.proofs.Padded.{set-padded}
+use Rattle.ground.specs.Limits.{limits}
+use Rattle.ground.specs.Padded.{padded}
+use Rattle.ground.proofs.Padded.{set-padded}
 use Rattle.rules.specs.Formula.{Formula, horizon}
-use Rattle.rules.specs.Items.{rowOf}
-use Rattle.rules.specs.Loading.{Items, Reading, accepted, refused, oneValue, itemsOf, loadedOf, ruleOf, stackFrom, stackOf, timedIn, lowerIn, countsOf, countedOf, column}
-use Rattle.rules.specs.Walking.{Stacked, largestOf, Follows, Ready, ruleWith}
+use Rattle.rules.specs.Items.{rowOfItem}
+use Rattle.rules.specs.Loading.{Items, Reading, accepted, refused, oneValue, itemsOf, loadedOf, ruleOf, stackFrom, stackOf, timedIn, lowerIn, ruleCounts, ruleCounted, column}
+use Rattle.rules.specs.Inner.Walk.{Stacked, largestOf, Follows, OneMore, ruleWith}
 use Rattle.rules.specs.declared.item.Item.{Item}
-use Rattle.rules.specs.declared.item.Row.{Row}
-use Rattle.rules.specs.declared.judge.Counts.{Counts}
+use Rattle.rules.specs.declared.item.ItemRow.{ItemRow}
+use Rattle.rules.specs.declared.check.RuleCounts.{RuleCounts}
 use Rattle.rules.specs.declared.load.Loaded.{Loaded}
 use Rattle.rules.specs.declared.walk.Walk.{Walk}
-use Rattle.reading.specs.declared.refusal.Refusal.{Refusal}
+use Rattle.ground.specs.declared.refusal.Refusal.{Refusal}
 use Rattle.rules.proofs.Good.{largest-bound}
 use Rattle.rules.proofs.Stack.{applied, counts-more, stack-more}
 
@@ -61,15 +61,15 @@ module _ (array : List ℕ) (depth : ℕ) where
       rw (p, q, s .0, s .1 .0) (omega arith)
 
 -- a column with one element more
-column-more : (f : Row → ℕ) (is : Items) (i : Item) → length is < limits .items → set (column f is) (length is) (f (rowOf i)) ≡ column f (is ++ i ∷ [])
+column-more : (f : ItemRow → ℕ) (is : Items) (i : Item) → length is < limits .items → set (column f is) (length is) (f (rowOfItem i)) ≡ column f (is ++ i ∷ [])
 column-more f is i h =
-    let g : Item → ℕ = λ j. f (rowOf j) in
+    let g : Item → ℕ = λ j. f (rowOfItem j) in
     let n : length (map g is) ≡ length is = length-map is g in
     rw map-append (rw n at (set-padded (limits .items) (map g is) (g i) (omega arith)))
 
 -- the walk before the first item
 pub follows-none : Follows (record { counts = record { items = 0; timed = 0; lower = 0; depth = 0 }; horizons = replicate (limits .items) 0; codes = replicate (limits .items) 0; flags = replicate (limits .items) 0; lowers = replicate (limits .items) 0; uppers = replicate (limits .items) 0 }) []
-unfolding countsOf stackFrom timedIn lowerIn Stacked padded
+unfolding ruleCounts stackFrom timedIn lowerIn Stacked padded
 follows-none =
     record { counts = refl; horizons = tt; room = refl; codes = refl; flags = refl; lowers = refl; uppers = refl }
 
@@ -79,7 +79,7 @@ map-drop (suc n) [] = refl
 map-drop (suc n) (f ∷ st) = map-drop n st
 
 -- an item takes two operands at most
-few-operands : (i : Item) → rowOf i .operands ≤ 2
+few-operands : (i : Item) → rowOfItem i .operands ≤ 2
 few-operands Item.True = omega arith
 few-operands Item.False = omega arith
 few-operands (Item.Flag k) = omega arith
@@ -92,20 +92,20 @@ few-operands (Item.Eventually a b) = omega arith
 few-operands (Item.Globally a b) = omega arith
 
 -- the indices and the sum that one item more needs
-pub record Room (n : Counts) (row : Row) : Type 0 where
+pub record Space (n : RuleCounts) (row : ItemRow) : Type 0 where
   pub place : n .items < limits .items
   pub operands : row .operands ≤ n .depth
   pub depth : n .depth ≤ n .items
   pub few : row .operands ≤ 2
   pub upper : row .upper ≤ limits .bound
 
-module _ (w : Walk) (i : Item) (c : Counts) (is : Items) (r : Ready w i c is) where
-  pub room-of : Room (w .counts) (rowOf i)
-  unfolding countedOf
+module _ (w : Walk) (i : Item) (c : RuleCounts) (is : Items) (r : OneMore w i c is) where
+  pub room-of : Space (w .counts) (rowOfItem i)
+  unfolding ruleCounted
   room-of =
       let f = r .fine in
       let g = r .good .within in
-      let n : countsOf is .items + 1 ≤ limits .items = rw (f .counts) at (f .items) in
+      let n : ruleCounts is .items + 1 ≤ limits .items = rw (f .counts) at (f .items) in
       rw (r .follows .counts)
       (record {
         place = omega arith;
@@ -116,21 +116,21 @@ module _ (w : Walk) (i : Item) (c : Counts) (is : Items) (r : Ready w i c is) wh
       })
 
   pub depth-of : w .counts .depth ≡ length (map horizon (stackOf is))
-  unfolding countsOf
+  unfolding ruleCounts
   depth-of = rw length-map (ap (λ k. k .depth) (r .follows .counts))
 
-  pub near-of : (reach : ℕ) → reach ≡ largestOf (take (rowOf i .operands) (map horizon (stackOf is))) → reach ≤ limits .bound * limits .timed
-  unfolding countsOf
+  pub near-of : (reach : ℕ) → reach ≡ largestOf (take (rowOfItem i .operands) (map horizon (stackOf is))) → reach ≤ limits .bound * limits .timed
+  unfolding ruleCounts
   near-of reach m =
       omega (
         arith,
-        largest-bound (limits .bound * timedIn is) (rowOf i .operands) (stackOf is) (r .good .near),
+        largest-bound (limits .bound * timedIn is) (rowOfItem i .operands) (stackOf is) (r .good .near),
         r .good .within .timed,
       )
 
   -- the walk with one item more
-  pub follows-more : (reach : ℕ) → reach ≡ largestOf (take (rowOf i .operands) (map horizon (stackOf is))) → Follows (record { counts = c; horizons = set (w .horizons) (w .counts .depth - rowOf i .operands) (rowOf i .upper + reach); codes = set (w .codes) (w .counts .items) (rowOf i .code); flags = set (w .flags) (w .counts .items) (rowOf i .flag); lowers = set (w .lowers) (w .counts .items) (rowOf i .lower); uppers = set (w .uppers) (w .counts .items) (rowOf i .upper) }) (is ++ i ∷ [])
-  unfolding countsOf
+  pub follows-more : (reach : ℕ) → reach ≡ largestOf (take (rowOfItem i .operands) (map horizon (stackOf is))) → Follows (record { counts = c; horizons = set (w .horizons) (w .counts .depth - rowOfItem i .operands) (rowOfItem i .upper + reach); codes = set (w .codes) (w .counts .items) (rowOfItem i .code); flags = set (w .flags) (w .counts .items) (rowOfItem i .flag); lowers = set (w .lowers) (w .counts .items) (rowOfItem i .lower); uppers = set (w .uppers) (w .counts .items) (rowOfItem i .upper) }) (is ++ i ∷ [])
+  unfolding ruleCounts
   follows-more reach m =
       let f = r .follows in
       let room = room-of in
@@ -138,16 +138,16 @@ module _ (w : Walk) (i : Item) (c : Counts) (is : Items) (r : Ready w i c is) wh
       let n : w .counts .items ≡ length is = ap (λ k. k .items) (f .counts) in
       let d : w .counts .depth ≡ length (stackOf is) = ap (λ k. k .depth) (f .counts) in
       let s : Stacked (w .horizons) (map horizon (a .rest)) =
-      rw (a .tail, map-drop) (stacked-drop (w .horizons) (rowOf i .operands) (map horizon (stackOf is)) (f .horizons)) in
-      let h : horizon (a .value) ≡ rowOf i .upper + reach = rw m (a .far) in
-      let l : w .counts .depth - rowOf i .operands ≡ length (map horizon (a .rest)) =
+      rw (a .tail, map-drop) (stacked-drop (w .horizons) (rowOfItem i .operands) (map horizon (stackOf is)) (f .horizons)) in
+      let h : horizon (a .value) ≡ rowOfItem i .upper + reach = rw m (a .far) in
+      let l : w .counts .depth - rowOfItem i .operands ≡ length (map horizon (a .rest)) =
       rw length-map (omega (arith, a .left)) in
       let small : length is < limits .items = omega (arith, room .place) in
       record {
         counts = r .fine .counts ∙ counts-more is i (r .fine .operands);
         horizons =
             rw (stack-more, a .gives, h)
-            (stacked-push (w .horizons) _ _ (rowOf i .upper + reach) l (omega (arith, f .room, room .place, room .depth)) s);
+            (stacked-push (w .horizons) _ _ (rowOfItem i .upper + reach) l (omega (arith, f .room, room .place, room .depth)) s);
         room = rw length-set (f .room);
         codes = rw (f .codes, n) (column-more (λ k. k .code) is i small);
         flags = rw (f .flags, n) (column-more (λ k. k .flag) is i small);
@@ -171,7 +171,7 @@ found-refused w r f = found w [] (refused r) _ f refl refl
 
 -- the end: exactly one value, or refusal 9
 pub found-not-one : (w : Walk) (is : Items) (n : ℕ) → Follows w is → (w .counts .depth ≡ 1 → ⊥) → refused (Refusal.NotOneValue n) ≡ oneValue n is (stackOf is)
-unfolding countsOf
+unfolding ruleCounts
 found-not-one w is n f h = go (stackOf is) (λ e. h (ap (λ k. k .depth) (f .counts) ∙ e))
   where
     go : (st : List Formula) → (length st ≡ 1 → ⊥) → refused (Refusal.NotOneValue n) ≡ oneValue n is st
@@ -180,7 +180,7 @@ found-not-one w is n f h = go (stackOf is) (λ e. h (ap (λ k. k .depth) (f .cou
     go (x ∷ y ∷ st) g = refl
 
 pub found-one : (w : Walk) (is : Items) (n : ℕ) → Follows w is → w .counts .depth ≡ 1 → ruleWith w (Loaded.Accepted (w .counts .items) (getD (w .horizons) 0 0)) ≡ ruleOf (oneValue n is (stackOf is))
-unfolding countsOf Stacked
+unfolding ruleCounts Stacked
 found-one w is n f h = go (stackOf is) (sym (ap (λ k. k .depth) (f .counts)) ∙ h) (f .horizons)
   where
     go : (st : List Formula) → length st ≡ 1 → Stacked (w .horizons) (map horizon st) → ruleWith w (Loaded.Accepted (w .counts .items) (getD (w .horizons) 0 0)) ≡ ruleOf (oneValue n is st)

@@ -4,12 +4,18 @@ use mathlib.Core.Path.{_≡_}
 use mathlib.Core.List.{List}
 use Prim.Native.Nat.{ℕ, _+_, _*_, _≤_}
 use lib.ListN.{length}
-use Rattle.reading.specs.Limits.{limits}
+use Rattle.ground.specs.Limits.{limits}
 use Rattle.rules.specs.Formula.{Formula, horizon}
-use Rattle.reading.specs.Each.{Each}
-use Rattle.rules.specs.Good.{InRange, postfix}
-use Rattle.rules.specs.Items.{ruleBytes}
+use Rattle.ground.specs.Each.{Each}
+use Rattle.rules.specs.Items.{rowOfItem, postfix, ruleBytes}
 use Rattle.rules.specs.Loading.{Items, timedIn, lowerIn}
+use Rattle.rules.specs.declared.item.Item.{Item}
+
+-- A flag is at most 7, and a window is one: a ≤ b ≤ 255
+pub record InRange (i : Item) : Type 0 where
+  pub flag : rowOfItem i .flag ≤ limits .flag
+  pub window : rowOfItem i .lower ≤ rowOfItem i .upper
+  pub bound : rowOfItem i .upper ≤ limits .bound
 
 -- The greatest horizon: 16 timed items, one within the other, that look 255 frames ahead each
 abbrev pub mostHorizon : ℕ

@@ -9,25 +9,25 @@ use Rattle.reading.specs.Numbers.{numberBytes}
 use Rattle.rules.specs.Formula.{Formula}
 use Rattle.rules.specs.declared.item.Item.{Item}
 use Rattle.rules.specs.declared.item.Item.the-variants.{True, False, Flag, Not, And, Or, Until, Release, Eventually, Globally}
-use Rattle.rules.specs.declared.item.Row.{Row}
+use Rattle.rules.specs.declared.item.ItemRow.{ItemRow}
 
 -- A row of the table below: code byte, operands, timed (1 or 0), flag, lower bound, upper bound
-abbrev pub row : ℕ → ℕ → ℕ → ℕ → ℕ → ℕ → Row
-row code operands timed flag lower upper =
+abbrev pub itemRow : ℕ → ℕ → ℕ → ℕ → ℕ → ℕ → ItemRow
+itemRow code operands timed flag lower upper =
     record { code = code; operands = operands; timed = timed; flag = flag; lower = lower; upper = upper }
 
 -- The items by their numbers; what an item lacks is 0
-abbrev pub rowOf : Item → Row
-rowOf True = row 0x10 0 0 0 0 0
-rowOf False = row 0x11 0 0 0 0 0
-rowOf (Flag k) = row 0x12 0 0 k 0 0
-rowOf Not = row 0x20 1 0 0 0 0
-rowOf And = row 0x21 2 0 0 0 0
-rowOf Or = row 0x22 2 0 0 0 0
-rowOf (Until a b) = row 0x30 2 1 0 a b
-rowOf (Release a b) = row 0x31 2 1 0 a b
-rowOf (Eventually a b) = row 0x32 1 1 0 a b
-rowOf (Globally a b) = row 0x33 1 1 0 a b
+abbrev pub rowOfItem : Item → ItemRow
+rowOfItem True = itemRow 0x10 0 0 0 0 0
+rowOfItem False = itemRow 0x11 0 0 0 0 0
+rowOfItem (Flag k) = itemRow 0x12 0 0 k 0 0
+rowOfItem Not = itemRow 0x20 1 0 0 0 0
+rowOfItem And = itemRow 0x21 2 0 0 0 0
+rowOfItem Or = itemRow 0x22 2 0 0 0 0
+rowOfItem (Until a b) = itemRow 0x30 2 1 0 a b
+rowOfItem (Release a b) = itemRow 0x31 2 1 0 a b
+rowOfItem (Eventually a b) = itemRow 0x32 1 1 0 a b
+rowOfItem (Globally a b) = itemRow 0x33 1 1 0 a b
 
 -- The item of a code byte, with its flag and its bounds; the reader has refused any code byte but these ten
 unfoldable pub itemOf : ℕ → ℕ → ℕ → ℕ → Item
@@ -67,18 +67,31 @@ apply (Globally a b) [] = []
 apply (Globally a b) (f ∷ st) = Formula.Globally a b f ∷ st
 
 -- The bytes of an item: its code byte, and its numbers in the shortest form
-unfoldable pub bytesOf : Item → List ℕ
-bytesOf True = 0x10 ∷ []
-bytesOf False = 0x11 ∷ []
-bytesOf (Flag k) = 0x12 ∷ numberBytes k
-bytesOf Not = 0x20 ∷ []
-bytesOf And = 0x21 ∷ []
-bytesOf Or = 0x22 ∷ []
-bytesOf (Until a b) = 0x30 ∷ (numberBytes a ++ numberBytes b)
-bytesOf (Release a b) = 0x31 ∷ (numberBytes a ++ numberBytes b)
-bytesOf (Eventually a b) = 0x32 ∷ (numberBytes a ++ numberBytes b)
-bytesOf (Globally a b) = 0x33 ∷ (numberBytes a ++ numberBytes b)
+unfoldable pub bytesOfItem : Item → List ℕ
+bytesOfItem True = 0x10 ∷ []
+bytesOfItem False = 0x11 ∷ []
+bytesOfItem (Flag k) = 0x12 ∷ numberBytes k
+bytesOfItem Not = 0x20 ∷ []
+bytesOfItem And = 0x21 ∷ []
+bytesOfItem Or = 0x22 ∷ []
+bytesOfItem (Until a b) = 0x30 ∷ (numberBytes a ++ numberBytes b)
+bytesOfItem (Release a b) = 0x31 ∷ (numberBytes a ++ numberBytes b)
+bytesOfItem (Eventually a b) = 0x32 ∷ (numberBytes a ++ numberBytes b)
+bytesOfItem (Globally a b) = 0x33 ∷ (numberBytes a ++ numberBytes b)
 
 -- The bytes of a rule: those of its items, in order
 abbrev pub ruleBytes : List Item → List ℕ
-ruleBytes is = bytesOfAll bytesOf is
+ruleBytes is = bytesOfAll bytesOfItem is
+
+-- The items of a formula, in order
+unfoldable pub postfix : Formula → List Item
+postfix Formula.True = True ∷ []
+postfix Formula.False = False ∷ []
+postfix (Formula.Flag k) = Flag k ∷ []
+postfix (Formula.Not f) = postfix f ++ Not ∷ []
+postfix (Formula.And f g) = postfix f ++ (postfix g ++ And ∷ [])
+postfix (Formula.Or f g) = postfix f ++ (postfix g ++ Or ∷ [])
+postfix (Formula.Until a b f g) = postfix f ++ (postfix g ++ Until a b ∷ [])
+postfix (Formula.Release a b f g) = postfix f ++ (postfix g ++ Release a b ∷ [])
+postfix (Formula.Eventually a b f) = postfix f ++ Eventually a b ∷ []
+postfix (Formula.Globally a b f) = postfix f ++ Globally a b ∷ []

@@ -3,7 +3,7 @@ pub mod Formula
 pub mod Meaning
 pub mod Items
 pub mod Loading
-pub mod Good
 pub mod Accepted
+pub mod Loaded
 pub mod Samples
-pub mod Walking
+pub mod Inner

@@ -6,17 +6,17 @@ use mathlib.Core.List.{List, [], _∷_, map}
 use Prim.Native.Nat.{ℕ, _+_, _-_}
 use lib.Dec.{ltb}
 use lib.ListN.{length}
-use Rattle.reading.specs.Limits.{limits}
-use Rattle.reading.specs.InTurn.{Kind, Verdict, Walked, walked}
-use Rattle.reading.specs.Padded.{padded}
+use Rattle.ground.specs.Limits.{limits}
+use Rattle.reading.specs.InTurn.{Kind, Outcome, AllRead, readAll}
+use Rattle.ground.specs.Padded.{padded}
 use Rattle.reading.specs.declared.item.Table.{Table}
-use Rattle.reading.specs.declared.refusal.Refusal.{Refusal}
+use Rattle.ground.specs.declared.refusal.Refusal.{Refusal}
 use Rattle.rules.specs.Formula.{Formula, horizon}
-use Rattle.rules.specs.Items.{rowOf, itemOf, apply}
+use Rattle.rules.specs.Items.{rowOfItem, itemOf, apply}
 use Rattle.rules.specs.declared.item.Item.{Item}
-use Rattle.rules.specs.declared.item.Row.{Row}
-use Rattle.rules.specs.declared.judge.Counts.{Counts}
-use Rattle.rules.specs.declared.judge.Judged.{Judged}
+use Rattle.rules.specs.declared.item.ItemRow.{ItemRow}
+use Rattle.rules.specs.declared.check.RuleCounts.{RuleCounts}
+use Rattle.rules.specs.declared.check.CheckedItem.{CheckedItem}
 use Rattle.rules.specs.declared.load.Rule.{Rule}
 use Rattle.rules.specs.declared.load.Loaded.{Loaded}
 
@@ -36,20 +36,20 @@ stackOf is = stackFrom [] is
 -- How many items are timed
 unfoldable pub timedIn : Items → ℕ
 timedIn [] = 0
-timedIn (i ∷ is) = rowOf i .timed + timedIn is
+timedIn (i ∷ is) = rowOfItem i .timed + timedIn is
 
 -- What the lower bounds add up to
 unfoldable pub lowerIn : Items → ℕ
 lowerIn [] = 0
-lowerIn (i ∷ is) = rowOf i .lower + lowerIn is
+lowerIn (i ∷ is) = rowOfItem i .lower + lowerIn is
 
 -- What is counted of the items read so far; depth is the number of values
-unfoldable pub countsOf : Items → Counts
-countsOf is = record { items = length is; timed = timedIn is; lower = lowerIn is; depth = length (stackOf is) }
+unfoldable pub ruleCounts : Items → RuleCounts
+ruleCounts is = record { items = length is; timed = timedIn is; lower = lowerIn is; depth = length (stackOf is) }
 
 -- The counts with one item more, which puts one value in the place of its operands
-unfoldable pub countedOf : Counts → Row → Counts
-countedOf c row =
+unfoldable pub ruleCounted : RuleCounts → ItemRow → RuleCounts
+ruleCounted c row =
     record {
       items = c .items + 1;
       timed = c .timed + row .timed;
@@ -62,17 +62,17 @@ unfoldable pub badWindow : ℕ → ℕ → Bool
 badWindow lower upper = ltb upper lower || ltb (limits .bound) upper
 
 -- 65th item, 17th timed item, or lower bounds above 256
-unfoldable pub tooLarge : Counts → Bool
-tooLarge c = ltb (limits .items) (c .items) || (ltb (limits .timed) (c .timed) || ltb (limits .lower) (c .lower))
+unfoldable pub ruleTooLarge : RuleCounts → Bool
+ruleTooLarge c = ltb (limits .items) (c .items) || (ltb (limits .timed) (c .timed) || ltb (limits .lower) (c .lower))
 
 -- The item at a place, after items that are counted: 5, 6, 7, 8 in turn
-unfoldable pub judgeOf : Counts → ℕ → Item → Judged
-judgeOf c at i =
-    let row = rowOf i in
-    cond (ltb (limits .flag) (row .flag)) (Judged.Refused (Refusal.FlagTooLarge at))
-    (cond (badWindow (row .lower) (row .upper)) (Judged.Refused (Refusal.BadWindow at))
-    (cond (ltb (c .depth) (row .operands)) (Judged.Refused (Refusal.TooFewOperands at))
-    (cond (tooLarge (countedOf c row)) (Judged.Refused (Refusal.RuleTooLarge at)) (Judged.Next (countedOf c row)))))
+unfoldable pub checkItem : RuleCounts → ℕ → Item → CheckedItem
+checkItem c at i =
+    let row = rowOfItem i in
+    cond (ltb (limits .flag) (row .flag)) (CheckedItem.Refused (Refusal.FlagTooLarge at))
+    (cond (badWindow (row .lower) (row .upper)) (CheckedItem.Refused (Refusal.BadWindow at))
+    (cond (ltb (c .depth) (row .operands)) (CheckedItem.Refused (Refusal.TooFewOperands at))
+    (cond (ruleTooLarge (ruleCounted c row)) (CheckedItem.Refused (Refusal.RuleTooLarge at)) (CheckedItem.Next (ruleCounted c row)))))
 
 -- What reading a rule gives: its items and the formula that they make, or the refusal
 pub data Reading : Type 0 where
@@ -86,9 +86,9 @@ oneValue n is (f ∷ []) = accepted is f
 oneValue n is (f ∷ g ∷ st) = refused (Refusal.NotOneValue n)
 
 -- The verdict on an item that is judged
-abbrev pub verdictOf : Judged → Verdict
-verdictOf (Judged.Next c) = Verdict.fine
-verdictOf (Judged.Refused r) = Verdict.bad r
+abbrev pub itemOutcome : CheckedItem → Outcome
+itemOutcome (CheckedItem.Next c) = Outcome.fine
+itemOutcome (CheckedItem.Refused r) = Outcome.bad r
 
 -- Rules as a kind of items, judged by what is counted of the items before
 abbrev pub ruleKind : Kind Item
@@ -96,17 +96,17 @@ ruleKind =
     record {
       table = Table.Rule;
       make = λ code i j k. itemOf code i i j;
-      judge = λ is at i. verdictOf (judgeOf (countsOf is) at i);
+      check = λ is at i. itemOutcome (checkItem (ruleCounts is) at i);
     }
 
 -- The end of a rule of so many bytes: its items make one value, or they are refused; a refusal on the way stays
-abbrev pub atEnd : ℕ → Walked Item → Reading
-atEnd n (Walked.items is) = oneValue n is (stackOf is)
-atEnd n (Walked.refused r) = refused r
+abbrev pub atEnd : ℕ → AllRead Item → Reading
+atEnd n (AllRead.items is) = oneValue n is (stackOf is)
+atEnd n (AllRead.refused r) = refused r
 
 -- A rule's bytes: its items in turn, then the end
 unfoldable pub readRule : List ℕ → Reading
-readRule bytes = atEnd (length bytes) (walked ruleKind bytes)
+readRule bytes = atEnd (length bytes) (readAll ruleKind bytes)
 
 -- What loading answers: the number of items and the horizon, or the refusal
 abbrev pub loadedOf : Reading → Loaded
@@ -119,8 +119,8 @@ itemsOf (accepted is f) = is
 itemsOf (refused r) = []
 
 -- One of an item's numbers, for each of some items, in an array with zeros behind
-abbrev pub column : (Row → ℕ) → Items → List ℕ
-column f is = padded (limits .items) (map (λ i. f (rowOf i)) is)
+abbrev pub column : (ItemRow → ℕ) → Items → List ℕ
+column f is = padded (limits .items) (map (λ i. f (rowOfItem i)) is)
 
 -- What loading keeps of a rule: the answer, and the items by their numbers
 unfoldable pub ruleOf : Reading → Rule

@@ -7,7 +7,7 @@ use mathlib.Core.List.{[], _∷_}
 use mathlib.Core.Logic.{_⊎_}
 use Prim.Native.Nat.{ℕ, zero, suc, _-_, _≤_, _<_}
 use lib.ListN.{length, getD, drop}
-use Rattle.reading.specs.Frames.{Clip, hasFlag}
+use Rattle.ground.specs.Frames.{Clip, hasFlag}
 use Rattle.rules.specs.Formula.{Formula, True, False, Flag, Not, And, Or, Until, Release, Eventually, Globally}
 
 -- l until[a,b] r on a clip: a place p of the window with r, and l at each place of the window before it

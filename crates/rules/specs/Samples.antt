@@ -3,10 +3,10 @@ use mathlib.Core.Path.{_≡_}
 use mathlib.Core.Bool.{Bool, true, false}
 use mathlib.Core.List.{List, [], _∷_}
 use Prim.Native.Nat.{ℕ}
-use Rattle.reading.specs.declared.refusal.Refusal.{Refusal}
+use Rattle.ground.specs.declared.refusal.Refusal.{Refusal}
 use Rattle.rules.specs.Formula.{Formula}
 use Rattle.rules.specs.Loading.{Reading, accepted, refused, readRule, loadedOf}
-use Rattle.reading.specs.Frames.{Clip}
+use Rattle.ground.specs.Frames.{Clip}
 use Rattle.rules.specs.Meaning.{holds}
 use Rattle.rules.specs.declared.load.Loaded.{Loaded}
 
@@ -22,15 +22,15 @@ fromEach f [] = []
 fromEach f (x ∷ c) = holds f (x ∷ c) ∷ fromEach f c
 
 -- The same of a rule that was read; of a refused one there is nothing to say
-abbrev pub verdicts : Reading → Clip → List Bool
-verdicts (accepted is f) c = fromEach f c
-verdicts (refused r) c = []
+abbrev pub verdictsRead : Reading → Clip → List Bool
+verdictsRead (accepted is f) c = fromEach f c
+verdictsRead (refused r) c = []
 
 -- A row is right by the definitions that the contracts cite
-abbrev pub Right : Sample → Type 0
-Right (accepts rule items horizon) = loadedOf (readRule rule) ≡ Loaded.Accepted items horizon
-Right (refuses rule refusal) = loadedOf (readRule rule) ≡ Loaded.Refused refusal
-Right (judges rule clip bits) = verdicts (readRule rule) clip ≡ bits
+abbrev pub LoadedRight : Sample → Type 0
+LoadedRight (accepts rule items horizon) = loadedOf (readRule rule) ≡ Loaded.Accepted items horizon
+LoadedRight (refuses rule refusal) = loadedOf (readRule rule) ≡ Loaded.Refused refusal
+LoadedRight (judges rule clip bits) = verdictsRead (readRule rule) clip ≡ bits
 
 -- The table
 unfoldable pub samples : List Sample

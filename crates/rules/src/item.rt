@@ -1,6 +1,6 @@
 // The ten items of rules.
 ghost use mathlib.Core.Path.{_≡_};
-ghost use Rattle.rules.specs.Items.{itemOf, rowOf};
+ghost use Rattle.rules.specs.Items.{itemOf, rowOfItem};
 
 // An item: operands stand before operators, and of two operands the left comes first.
 pub enum Item {
@@ -18,7 +18,7 @@ pub enum Item {
 
 // What document 01 says of an item in numbers: its code byte, its operands, whether it is timed (1 or 0), its flag, its bounds. What it
 // lacks is 0.
-pub struct Row {
+pub struct ItemRow {
     pub code: u8,
     pub operands: usize,
     pub timed: u16,
@@ -27,10 +27,10 @@ pub struct Row {
     pub upper: u16,
 }
 
-fn new_row(code: u8, operands: usize, timed: u16, flag: u16, lower: u16, upper: u16) -> Row
+fn new_row(code: u8, operands: usize, timed: u16, flag: u16, lower: u16, upper: u16) -> ItemRow
     ensures { λ r. ⌜ r ≡ record { code = code; operands = operands; timed = timed; flag = flag; lower = lower; upper = upper } ⌝ }
 {
-    Row {
+    ItemRow {
         code,
         operands,
         timed,
@@ -41,8 +41,8 @@ fn new_row(code: u8, operands: usize, timed: u16, flag: u16, lower: u16, upper: 
 }
 
 // The numbers of an item.
-pub fn row_of(item: Item) -> Row
-    ensures { λ r. ⌜ r ≡ rowOf item ⌝ }
+pub fn row_of(item: Item) -> ItemRow
+    ensures { λ r. ⌜ r ≡ rowOfItem item ⌝ }
 {
     match item {
         Item::True => new_row(0x10, 0, 0, 0, 0, 0),

@@ -1,16 +1,16 @@
 // Loading a rule: one walk over its bytes judges each item in turn and keeps what the layers above need of an accepted rule.
 ghost use mathlib.Core.Path.{_≡_};
 ghost use Rattle.rules.specs.Loading.{Items, stackOf, refused, oneValue, readRule, loadedOf, ruleOf};
-ghost use Rattle.rules.specs.Walking.{Follows, ruleWith};
+ghost use Rattle.rules.specs.Inner.Walk.{Follows, ruleWith};
+use crate::check::CheckedItem;
+use crate::check::check;
 use crate::item::item_of;
-use crate::judge::Judged;
-use crate::judge::judge;
 use crate::walk::Walk;
+use ground::limits::MOST_ITEMS;
+use ground::refusal::Refusal;
 use reading::item::Read;
 use reading::item::Table;
-use reading::limits::MOST_ITEMS;
 use reading::reader::read_item;
-use reading::refusal::Refusal;
 
 // What loading answers: how many items and which horizon, or the refusal.
 pub enum Loaded {
@@ -83,12 +83,12 @@ pub fn decode(bytes: &[u8]) -> Rule
                 next,
             } => {
                 let item = item_of(code, first, first, second);
-                match judge(walk.counts, at, item) {
-                    Judged::Next(counts) => {
+                match check(walk.counts, at, item) {
+                    CheckedItem::Next(counts) => {
                         walk = walk.with(item, counts);
                         at = next;
                     }
-                    Judged::Refused(refusal) => return refused(refusal),
+                    CheckedItem::Refused(refusal) => return refused(refusal),
                 }
             }
             Read::End => return at_end(walk, bytes.len()),

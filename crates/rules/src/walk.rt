@@ -3,17 +3,17 @@ ghost use mathlib.Core.List.{List, [], _∷_, _++_};
 ghost use mathlib.Core.Path.{_≡_};
 ghost use Prim.Native.Nat.{ℕ, _≤_};
 ghost use lib.ListN.{length, take};
-ghost use Rattle.reading.specs.Limits.{limits};
+ghost use Rattle.ground.specs.Limits.{limits};
 ghost use Rattle.rules.specs.Loading.{Items};
-ghost use Rattle.rules.specs.Walking.{Stacked, largestOf, Follows, Ready};
+ghost use Rattle.rules.specs.Inner.Walk.{Stacked, largestOf, Follows, OneMore};
+use crate::check::RuleCounts;
 use crate::item::Item;
 use crate::item::row_of;
-use crate::judge::Counts;
-use reading::limits::MOST_ITEMS;
+use ground::limits::MOST_ITEMS;
 
 // Where the walk over a rule stands: what it counts, the horizons of the values that wait, and the items read.
 pub(crate) struct Walk {
-    pub counts: Counts,
+    pub counts: RuleCounts,
     pub horizons: [u16; MOST_ITEMS],
     pub codes: [u8; MOST_ITEMS],
     pub flags: [u16; MOST_ITEMS],
@@ -46,7 +46,7 @@ impl Walk {
         ensures { λ r. ⌜ Follows r [] ⌝ }
     {
         Walk {
-            counts: Counts {
+            counts: RuleCounts {
                 items: 0,
                 timed: 0,
                 lower: 0,
@@ -61,9 +61,9 @@ impl Walk {
     }
 
     // One item more, which is judged and counted.
-    pub(crate) fn with(mut self, item: Item, counts: Counts) -> Walk
-        requires { ⌜ ((is : Items) × Ready self item counts is) ⌝ }
-        ensures { λ r. ⌜ ((is : Items) → Ready self item counts is → Follows r (is ++ item ∷ [])) ⌝ }
+    pub(crate) fn with(mut self, item: Item, counts: RuleCounts) -> Walk
+        requires { ⌜ ((is : Items) × OneMore self item counts is) ⌝ }
+        ensures { λ r. ⌜ ((is : Items) → OneMore self item counts is → Follows r (is ++ item ∷ [])) ⌝ }
     {
         let row = row_of(item);
         let place = self.counts.items;

@@ -4,26 +4,26 @@
 // Standard input, until it ends: a byte for the case's kind, and three times bytes, each with their length before them as four bytes, lowest
 // first: for `l`, load, the code and twice nothing; for `s`, step, the code, the frame, and the registers as 288 bytes (sixteen counters of
 // two bytes, lowest first, and a byte for each of the 256 delay bits); for `r`, run, the code, the clip, and the buffer as it is before; for
-// `e`, emit, the rule, nothing, and the buffer as it is before; for `j`, judge, the rule, the clip, and the buffer as it is before.
+// `e`, emit, the rule, nothing, and the buffer as it is before; for `j`, verdicts, the rule, the clip, and the buffer as it is before.
 //
 // Standard output: for load, `accepted INSTRUCTIONS` or `refused NUMBER PLACE`; for step, `bit BIT` or the refusal, and ` counters COUNTERS delays
 // DELAYS` with all registers after it, the delay bits as 64 hex digits, the first bit highest; for run, `done` or the refusal, and ` [BUFFER]` with
-// every byte of the buffer after it, two hex digits each; for emit, `length LENGTH` or the refusal, and ` [BUFFER]`; for judge, what a run of the
+// every byte of the buffer after it, two hex digits each; for emit, `length LENGTH` or the refusal, and ` [BUFFER]`; for verdicts, what a run of the
 // rule's emitted code answers, or the rule's refusal, and ` [BUFFER]`. Where bytes are longer than 131,072, the kind is another, or the stream
 // ends inside a case, the line is `cut`, and it is the last.
 ghost use Prim.Native.Nat.{_<_};
+use code::load::LoadedCode;
+use code::load::load_code;
 use emitter::emit::Emitted;
 use emitter::emit::MOST_CODE;
 use emitter::emit::emit;
+use ground::limits::COUNTERS;
+use ground::limits::DELAYS;
+use ground::refusal::Refusal;
+use ground::refusal::number;
+use ground::refusal::place;
 use libc::STDIN_FILENO;
 use libc::STDOUT_FILENO;
-use reading::limits::COUNTERS;
-use reading::limits::DELAYS;
-use reading::refusal::Refusal;
-use reading::refusal::number;
-use reading::refusal::place;
-use sequencer::load::Loaded;
-use sequencer::load::load_code;
 use sequencer::registers::Output;
 use sequencer::registers::Registers;
 use sequencer::run::Ran;
@@ -90,10 +90,10 @@ fn write_refusal(refusal: Refusal) {
 }
 
 // Writes what loading answered.
-fn write_loaded(loaded: Loaded) {
+fn write_loaded(loaded: LoadedCode) {
     match loaded {
-        Loaded::Accepted(instructions) => write_number(b"accepted ", instructions),
-        Loaded::Refused(refusal) => write_refusal(refusal),
+        LoadedCode::Accepted(instructions) => write_number(b"accepted ", instructions),
+        LoadedCode::Refused(refusal) => write_refusal(refusal),
     }
 }
 
@@ -246,7 +246,7 @@ fn answer_emit(rule: &[u8], buffer: &mut [u8]) {
 }
 
 // Runs a rule's code over a clip. A rule that is refused has no code, and its refusal is the answer.
-fn judge(rule: &[u8], clip: &[u8], buffer: &mut [u8]) -> Ran {
+fn verdicts(rule: &[u8], clip: &[u8], buffer: &mut [u8]) -> Ran {
     let mut code = [0; MOST_CODE];
     let emitted = emit(rule, &mut code);
     match emitted {
@@ -255,9 +255,9 @@ fn judge(rule: &[u8], clip: &[u8], buffer: &mut [u8]) -> Ran {
     }
 }
 
-// Judges a clip by a rule and writes the answer and every byte of the buffer after it.
-fn answer_judge(rule: &[u8], clip: &[u8], buffer: &mut [u8]) {
-    write_ran(judge(rule, clip, &mut *buffer));
+// Says for each frame of a clip whether a rule holds from there, and writes the answer and every byte of the buffer after it.
+fn answer_verdicts(rule: &[u8], clip: &[u8], buffer: &mut [u8]) {
+    write_ran(verdicts(rule, clip, &mut *buffer));
     write_buffer(buffer);
 }
 
@@ -286,7 +286,7 @@ fn answer_case(kind: u8, first: &[u8], second: &[u8], third: &mut [u8]) -> bool 
         return true;
     }
     if kind == b'j' {
-        answer_judge(first, second, &mut *third);
+        answer_verdicts(first, second, &mut *third);
         return true;
     }
     cut()

@@ -10,18 +10,18 @@ use native.Mathlib.Omega.{arith}
 use lib.Dec.{leb·zero, leb·suc-zero, leb·suc-suc}
 use lib.ListN.{length, getD, drop, replicate, length-append, replicate-append-replicate, List·getD-map}
 use lib.Seq.{take-append-seam, take-append-add, drop-append-seam, drop-append-add, getD-append-seam, set-append-seam}
-use Rattle.reading.specs.Buffers.{over}
-use Rattle.reading.specs.Each.{Each}
-use Rattle.reading.specs.Frames.{Clip}
-use Rattle.reading.specs.Limits.{limits}
+use Rattle.ground.specs.Buffers.{over}
+use Rattle.ground.specs.Each.{Each}
+use Rattle.ground.specs.Frames.{Clip}
+use Rattle.ground.specs.Limits.{limits}
 use Rattle.sequencer.specs.Bits.{Wire, Counter, none, count, counter, later, wire, wireOf, wiresFrom, output}
-use Rattle.sequencer.specs.Code.{Instruction, One, Flag, Nand, Reach, Later, Code}
-use Rattle.sequencer.specs.Loading.{reachOf, distanceOf, reachesIn, distanceIn}
-use Rattle.sequencer.specs.Rows.{rowOf}
+use Rattle.code.specs.Code.{Instruction, One, Flag, Nand, Reach, Later, Code}
+use Rattle.code.specs.Loading.{reachOf, distanceOf, reachesIn, distanceIn}
+use Rattle.code.specs.Inner.Rows.{rowOfInstruction}
 use Rattle.sequencer.specs.Registers.{counterOf, kept, freshRegisters, start, shifted, execute, executed, registersOf, outputOf}
-use Rattle.sequencer.specs.Good.{Good}
+use Rattle.code.specs.Good.{GoodCode}
 use Rattle.sequencer.specs.After.{window, ownCounter, ownDelays, countersOf, delaysOf, registersAfter, stepsOver}
-use Rattle.sequencer.proofs.Counting.{good-counters, good-delays, good-lines}
+use Rattle.code.proofs.Counting.{good-counters, good-delays, good-lines}
 
 -- A line of bits
 
@@ -101,7 +101,7 @@ module _ (x : ℕ) (c : Clip) where
   bit-is ws i = List·getD-map (λ w. w (x ∷ c)) ws i (λ c. false)
 
   -- One instruction, behind those before it
-  one : (ws : List Wire) (i : Instruction) → rowOf i .later ≤ distanceOf i → (A R : List ℕ) (D S : List Bool) → execute x (record { bits = map (λ w. w (x ∷ c)) ws; counters = A ++ (ownCounter ws i c ++ R); used = length A; delays = D ++ (ownDelays ws i c ++ S); taken = length D }) i ≡ record { bits = map (λ w. w (x ∷ c)) (ws ++ wireOf ws i ∷ []); counters = A ++ (ownCounter ws i (x ∷ c) ++ R); used = length A + reachOf i; delays = D ++ (ownDelays ws i (x ∷ c) ++ S); taken = length D + distanceOf i }
+  one : (ws : List Wire) (i : Instruction) → rowOfInstruction i .later ≤ distanceOf i → (A R : List ℕ) (D S : List Bool) → execute x (record { bits = map (λ w. w (x ∷ c)) ws; counters = A ++ (ownCounter ws i c ++ R); used = length A; delays = D ++ (ownDelays ws i c ++ S); taken = length D }) i ≡ record { bits = map (λ w. w (x ∷ c)) (ws ++ wireOf ws i ∷ []); counters = A ++ (ownCounter ws i (x ∷ c) ++ R); used = length A + reachOf i; delays = D ++ (ownDelays ws i (x ∷ c) ++ S); taken = length D + distanceOf i }
   unfolding execute wireOf counter
   one ws One h A R D S = simp (map-append, add-zero)
   one ws (Flag k) h A R D S = simp (map-append, add-zero)
@@ -112,7 +112,7 @@ module _ (x : ℕ) (c : Clip) where
       simp (bit-is, window-oldest (wire ws i) d x c D S, window-shifted (wire ws i) d x c D S, map-append, add-zero)
 
   -- Instructions in turn, behind those before them
-  run : (is : Code) → Each (λ i. rowOf i .later ≤ distanceOf i) is → (ws : List Wire) (A R : List ℕ) (D S : List Bool) → executed x is (record { bits = map (λ w. w (x ∷ c)) ws; counters = A ++ (countersOf ws is c ++ R); used = length A; delays = D ++ (delaysOf ws is c ++ S); taken = length D }) ≡ record { bits = map (λ w. w (x ∷ c)) (wiresFrom ws is); counters = A ++ (countersOf ws is (x ∷ c) ++ R); used = length A + reachesIn is; delays = D ++ (delaysOf ws is (x ∷ c) ++ S); taken = length D + distanceIn is }
+  run : (is : Code) → Each (λ i. rowOfInstruction i .later ≤ distanceOf i) is → (ws : List Wire) (A R : List ℕ) (D S : List Bool) → executed x is (record { bits = map (λ w. w (x ∷ c)) ws; counters = A ++ (countersOf ws is c ++ R); used = length A; delays = D ++ (delaysOf ws is c ++ S); taken = length D }) ≡ record { bits = map (λ w. w (x ∷ c)) (wiresFrom ws is); counters = A ++ (countersOf ws is (x ∷ c) ++ R); used = length A + reachesIn is; delays = D ++ (delaysOf ws is (x ∷ c) ++ S); taken = length D + distanceIn is }
   unfolding executed wiresFrom countersOf delaysOf reachesIn distanceIn
   run [] h ws A R D S = simp add-zero
   run (i ∷ is) h ws A R D S =
@@ -124,17 +124,17 @@ module _ (x : ℕ) (c : Clip) where
       simp (append-assoc, first)
       (simp (append-assoc, length-append, own-counter-length, own-delays-length, add-assoc) at rest)
 
-pub after-step : (code : Code) → Each (λ i. rowOf i .later ≤ distanceOf i) code → (x : ℕ) (c : Clip) → executed x code (start (registersAfter code c)) ≡ record { bits = map (λ w. w (x ∷ c)) (wiresFrom [] code); counters = registersAfter code (x ∷ c) .counters; used = reachesIn code; delays = registersAfter code (x ∷ c) .delays; taken = distanceIn code }
+pub after-step : (code : Code) → Each (λ i. rowOfInstruction i .later ≤ distanceOf i) code → (x : ℕ) (c : Clip) → executed x code (start (registersAfter code c)) ≡ record { bits = map (λ w. w (x ∷ c)) (wiresFrom [] code); counters = registersAfter code (x ∷ c) .counters; used = reachesIn code; delays = registersAfter code (x ∷ c) .delays; taken = distanceIn code }
 unfolding registersAfter
 after-step code h x c =
     let fresh = freshRegisters in
     let s = run x c code h [] [] (drop (reachesIn code) (fresh .counters)) [] (drop (distanceIn code) (fresh .delays)) in
     simp (counters-length, delays-length) (simp zero-add at s)
 
-pub after-registers : (code : Code) → Each (λ i. rowOf i .later ≤ distanceOf i) code → (x : ℕ) (c : Clip) → registersOf (executed x code (start (registersAfter code c))) ≡ registersAfter code (x ∷ c)
+pub after-registers : (code : Code) → Each (λ i. rowOfInstruction i .later ≤ distanceOf i) code → (x : ℕ) (c : Clip) → registersOf (executed x code (start (registersAfter code c))) ≡ registersAfter code (x ∷ c)
 after-registers code h x c = ap registersOf (after-step code h x c)
 
-pub after-output : (code : Code) → Each (λ i. rowOf i .later ≤ distanceOf i) code → (x : ℕ) (c : Clip) → outputOf code (executed x code (start (registersAfter code c))) ≡ output code (x ∷ c)
+pub after-output : (code : Code) → Each (λ i. rowOfInstruction i .later ≤ distanceOf i) code → (x : ℕ) (c : Clip) → outputOf code (executed x code (start (registersAfter code c))) ≡ output code (x ∷ c)
 unfolding output
 after-output code h x c = ap (outputOf code) (after-step code h x c) ∙ bit-is x c (wiresFrom [] code) (length code - 1)
 
@@ -183,7 +183,7 @@ after-none code h k =
     let q = over-fresh false (delaysOf [] code []) (distanceIn code) (limits .delays) (delays-none [] code) k in
     rw (p, q)
 
-pub after-clip : (code : Code) → Good code → (c : Clip) → stepsOver code c ≡ registersAfter code c
+pub after-clip : (code : Code) → GoodCode code → (c : Clip) → stepsOver code c ≡ registersAfter code c
 unfolding stepsOver
 after-clip code g [] = sym (after-none code (good-counters code g) (good-delays code g))
 after-clip code g (x ∷ c) = rw (after-clip code g c) (after-registers code (good-lines code g) x c)

@@ -10,7 +10,7 @@ use native.Mathlib.Decide.{decLt}
 use native.Mathlib.Numerals.{add-one}
 use native.Mathlib.Omega.{arith}
 use lib.ListN.{length, drop}
-use Rattle.reading.specs.Frames.{Clip}
+use Rattle.ground.specs.Frames.{Clip}
 use Rattle.sequencer.specs.Bits.{Wire, Counter, none, count, rise, next, counter, later, Reached, Says}
 
 module _ (w : ℕ) (i j : Wire) (x : ℕ) (c : Clip) where

@@ -2,13 +2,6 @@
 pub mod Counters
 pub mod Wires
 pub mod After
-pub mod Instructions
-pub mod Counting
-pub mod Judging
-pub mod Flat
-pub mod Turns
-pub mod Accepted
-pub mod Complete
 pub mod Through
 pub mod Stepping
 pub mod Running
@@ -16,4 +9,3 @@ pub mod Next
 pub mod Shifting
 pub mod Samples
 pub mod Unique
-pub mod Places

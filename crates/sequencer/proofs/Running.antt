@@ -10,23 +10,24 @@ use borrow.Author.Tests.{ltb-false}
 use lib.Dec.{ltb}
 use lib.ListN.{length, getD, take, drop, set, replicate, length-set, length-take, take-append-drop, drop-of-length-le}
 use lib.Seq.{drop-cons, take-suc, set-at}
-use Rattle.reading.specs.Buffers.{over}
-use Rattle.reading.specs.Frames.{Clip}
-use Rattle.reading.specs.InTurn.{Walked}
-use Rattle.reading.specs.Limits.{limits}
-use Rattle.reading.specs.declared.refusal.Refusal.{Refusal}
+use Rattle.ground.specs.Buffers.{over, byteOf}
+use Rattle.ground.specs.Frames.{Clip}
+use Rattle.reading.specs.InTurn.{AllRead}
+use Rattle.ground.specs.Limits.{limits}
+use Rattle.ground.specs.declared.refusal.Refusal.{Refusal}
 use Rattle.sequencer.specs.Bits.{output}
-use Rattle.sequencer.specs.Code.{Code}
-use Rattle.sequencer.specs.Loading.{readCode, codeOf}
+use Rattle.code.specs.Code.{Code}
+use Rattle.code.specs.Loading.{readCode, codeOf}
 use Rattle.sequencer.specs.Registers.{freshRegisters, start, executed}
-use Rattle.sequencer.specs.Running.{byteOf, verdicts, badClip, ranOf, bufferAfter}
+use Rattle.sequencer.specs.Running.{verdicts, badClip, ranOf, bufferAfter}
 use Rattle.sequencer.specs.declared.registers.Registers.{Registers}
 use Rattle.sequencer.specs.declared.run.Ran.{Ran}
-use Rattle.sequencer.specs.Programs.{codeIn, Fits, Leaves, Loads}
+use Rattle.code.specs.Programs.{codeIn}
+use Rattle.sequencer.specs.Inner.Through.{Fits, Leaves, CanRun}
 use Rattle.sequencer.specs.After.{registersAfter}
-use Rattle.sequencer.proofs.Accepted.{Ready}
+use Rattle.code.proofs.Accepted.{HasCode}
 use Rattle.sequencer.proofs.After.{after-none, after-registers, after-output}
-use Rattle.sequencer.proofs.Counting.{good-counters, good-delays, good-lines}
+use Rattle.code.proofs.Counting.{good-counters, good-delays, good-lines}
 
 -- one element more at the front of those that are written from a place to the end
 set-front : {A : Type 0} (xs own : List A) (p : ℕ) (v : A) → p < length xs → set (take (p + 1) xs ++ over own (drop (p + 1) xs)) p v ≡ take p xs ++ over (v ∷ own) (drop p xs)
@@ -35,7 +36,7 @@ set-front xs own p v h =
     let d : drop p xs ≡ getD xs p v ∷ drop (suc p) xs = drop-cons xs p v h in
     rw (add-one p, t, d, append-assoc) (set-at (take p xs) _ _ v p (rw length-take (omega arith)))
 
-module _ (numbers : List ℕ) (n : ℕ) (clip out₀ : List ℕ) (f : Loads numbers n clip out₀) where
+module _ (numbers : List ℕ) (n : ℕ) (clip out₀ : List ℕ) (f : CanRun numbers n clip out₀) where
   abbrev code : Code
   code = codeIn numbers n
 
@@ -103,7 +104,7 @@ module _ (numbers : List ℕ) (n : ℕ) (clip out₀ : List ℕ) (f : Loads numb
 
 -- The run as a whole: what is answered and written, by what its tests tell
 
-module _ (bytes numbers : List ℕ) (n : ℕ) (clip out : List ℕ) (a : Ready bytes numbers n) where
+module _ (bytes numbers : List ℕ) (n : ℕ) (clip out : List ℕ) (a : HasCode bytes numbers n) where
   module _ (bad : Bool) (test : bad ≡ badClip (length clip)) where
     pub ran-bad : bad ≡ true → Ran.Refused Refusal.BadClip ≡ ranOf (readCode bytes) clip out
     ran-bad e = rw (a .is, ← test, e)
@@ -112,7 +113,7 @@ module _ (bytes numbers : List ℕ) (n : ℕ) (clip out : List ℕ) (a : Ready b
     ran-short e short = rw (a .is, ← test, e, short)
 
     module _ (fit : bad ≡ false) (room : ltb (length out) (length clip) ≡ false) where
-      pub ready-loads : Loads numbers n clip out
+      pub ready-loads : CanRun numbers n clip out
       ready-loads =
           record { sound = a .sound; room = ltb-false (length out) (length clip) room }
 
@@ -122,7 +123,7 @@ module _ (bytes numbers : List ℕ) (n : ℕ) (clip out : List ℕ) (a : Ready b
       pub ran-all : (out′ : List ℕ) → out′ ≡ over (verdicts (codeIn numbers n) clip) out → out′ ≡ bufferAfter Ran.Done (codeOf (readCode bytes)) clip out
       ran-all out′ e = rw (a .is, ← a .own) e
 
-pub ran-refused : (bytes clip out : List ℕ) (r : Refusal) → readCode bytes ≡ Walked.refused r → Ran.Refused r ≡ ranOf (readCode bytes) clip out
+pub ran-refused : (bytes clip out : List ℕ) (r : Refusal) → readCode bytes ≡ AllRead.refused r → Ran.Refused r ≡ ranOf (readCode bytes) clip out
 ran-refused bytes clip out r e = rw e
 
 -- The bytes of a run: one for each frame, by the output after the clip from it

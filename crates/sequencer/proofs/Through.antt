@@ -1,4 +1,4 @@
--- One frame through code that is loaded, instruction by instruction. `Walk` says where the loop stands: its arrays and its two counts are those of a step that has executed the
+-- One frame through code that is loaded, instruction by instruction. `Executing` says where the loop stands: its arrays and its two counts are those of a step that has executed the
 -- instructions before it, and behind the bits written stands what stood there. Each instruction leads on by what `execute` makes of it.
 use mathlib.Core.Path.{_≡_, refl, ap, _∙_}
 use mathlib.Core.Bool.{Bool, true, false, not, _&&_}
@@ -10,20 +10,21 @@ use borrow.Author.Tests.{ne-eqb}
 use lib.Dec.{eqb}
 use lib.ListN.{length, getD, set, length-append, length-set, length-take, length-drop, List·getD-append}
 use lib.Seq.{getD-set-other}
-use Rattle.reading.specs.Buffers.{over}
-use Rattle.reading.specs.Frames.{hasFlag}
-use Rattle.reading.specs.Limits.{limits}
-use Rattle.reading.proofs.Buffers.{over-length, over-more}
+use Rattle.ground.specs.Buffers.{over}
+use Rattle.ground.specs.Frames.{hasFlag}
+use Rattle.ground.specs.Limits.{limits}
+use Rattle.ground.proofs.Buffers.{over-length, over-more}
 use Rattle.sequencer.specs.Bits.{Counter, none, count, next, isOn}
-use Rattle.sequencer.specs.Code.{Instruction, One, Flag, Nand, Reach, Later, Code}
-use Rattle.sequencer.specs.Loading.{reachOf, distanceOf, reachesIn, distanceIn}
-use Rattle.sequencer.specs.Rows.{rowOf}
+use Rattle.code.specs.Code.{Instruction, One, Flag, Nand, Reach, Later, Code}
+use Rattle.code.specs.Loading.{reachOf, distanceOf, reachesIn, distanceIn}
+use Rattle.code.specs.Inner.Rows.{rowOfInstruction}
 use Rattle.sequencer.specs.Registers.{Working, start, bit, shifted, execute, executed, counterOf, kept}
 use Rattle.sequencer.specs.declared.registers.Registers.{Registers}
-use Rattle.sequencer.specs.Programs.{instructionAt, codeIn, Fits, Leaves}
-use Rattle.sequencer.proofs.Counting.{reaches-more, distance-more}
-use Rattle.sequencer.proofs.Flat.{code-length, fine-at}
-use Rattle.sequencer.proofs.Instructions.{is-one, is-flag, is-nand, is-reach, is-later}
+use Rattle.code.specs.Programs.{instructionAt, codeIn}
+use Rattle.sequencer.specs.Inner.Through.{Fits, Leaves}
+use Rattle.code.proofs.Counting.{reaches-more, distance-more}
+use Rattle.code.proofs.Flat.{code-length, fine-at}
+use Rattle.code.proofs.Instructions.{is-one, is-flag, is-nand, is-reach, is-later}
 
 -- The instruction at a place, by its code byte
 
@@ -70,7 +71,7 @@ module _ (numbers : List ℕ) (frame : ℕ) (r : Registers) (bits₀ : List Bool
   abbrev done : ℕ → Working
   done n = executed frame (codeIn numbers n) (start r)
 
-  pub record Walk (n used taken : ℕ) (counters : List ℕ) (delays bits : List Bool) : Type 0 where
+  pub record Executing (n used taken : ℕ) (counters : List ℕ) (delays bits : List Bool) : Type 0 where
     pub own-counters : counters ≡ done n .counters
     pub own-used : used ≡ done n .used
     pub own-delays : delays ≡ done n .delays
@@ -83,7 +84,7 @@ module _ (numbers : List ℕ) (frame : ℕ) (r : Registers) (bits₀ : List Bool
     pub all-delays : length delays ≡ length (r .delays)
     pub inside : n ≤ length bits₀
 
-  pub walk-first : Walk 0 0 0 (r .counters) (r .delays) bits₀
+  pub walk-first : Executing 0 0 0 (r .counters) (r .delays) bits₀
   unfolding codeIn executed reachesIn distanceIn
   walk-first =
       record {
@@ -100,7 +101,7 @@ module _ (numbers : List ℕ) (frame : ℕ) (r : Registers) (bits₀ : List Bool
         inside = omega arith;
       }
 
-  module _ {n used taken : ℕ} {counters : List ℕ} {delays bits : List Bool} (w : Walk n used taken counters delays bits) where
+  module _ {n used taken : ℕ} {counters : List ℕ} {delays bits : List Bool} (w : Executing n used taken counters delays bits) where
     pub bits-length : length bits ≡ length bits₀
     bits-length = ap length (w .own-bits) ∙ over-length (done n .bits) bits₀ (omega (arith, w .so-many, w .inside))
 
@@ -113,10 +114,10 @@ module _ (numbers : List ℕ) (frame : ℕ) (r : Registers) (bits₀ : List Bool
     module _ (k : ℕ) (f : Fits numbers k r bits₀) (h : n < k) (i : Instruction) (e : instructionAt numbers n ≡ i) where
       -- What the instruction finds: its operands are written, its registers are there
       pub record Here : Type 0 where
-        pub flag : rowOf i .flag ≤ limits .flag
-        pub earlier : rowOf i .needs ≤ n
-        pub width : rowOf i .width ≤ limits .width
-        pub some : rowOf i .later ≤ distanceOf i
+        pub flag : rowOfInstruction i .flag ≤ limits .flag
+        pub earlier : rowOfInstruction i .needs ≤ n
+        pub width : rowOfInstruction i .width ≤ limits .width
+        pub some : rowOfInstruction i .later ≤ distanceOf i
         pub own-reach : used + reachOf i ≤ length counters
         pub own-line : taken + distanceOf i ≤ length delays
         pub own-place : n < length bits
@@ -138,7 +139,7 @@ module _ (numbers : List ℕ) (frame : ℕ) (r : Registers) (bits₀ : List Bool
       more : (b : Bool) (used′ taken′ : ℕ) (counters′ : List ℕ) (delays′ : List Bool)
           → execute frame (done n) i ≡ record { bits = done n .bits ++ b ∷ []; counters = counters′; used = used′; delays = delays′; taken = taken′ }
           → used′ ≡ used + reachOf i → taken′ ≡ taken + distanceOf i → length counters′ ≡ length counters → length delays′ ≡ length delays
-          → Walk (n + 1) used′ taken′ counters′ delays′ (set bits n b)
+          → Executing (n + 1) used′ taken′ counters′ delays′ (set bits n b)
       unfolding codeIn
       more b used′ taken′ counters′ delays′ x u t c d =
           let s : done (n + 1) ≡ record { bits = done n .bits ++ b ∷ []; counters = counters′; used = used′; delays = delays′; taken = taken′ } = rw (add-one n, executed-more, e) x in
@@ -158,25 +159,25 @@ module _ (numbers : List ℕ) (frame : ℕ) (r : Registers) (bits₀ : List Bool
           }
 
     module _ (k : ℕ) (f : Fits numbers k r bits₀) (h : n < k) where
-      pub walk-one : instructionAt numbers n ≡ One → Walk (n + 1) used taken counters delays (set bits n true)
+      pub walk-one : instructionAt numbers n ≡ One → Executing (n + 1) used taken counters delays (set bits n true)
       unfolding execute
       walk-one e =
           more k f h One e true used taken counters delays (rw (← w .own-counters, ← w .own-used, ← w .own-delays, ← w .own-taken)) (omega arith) (omega arith) refl refl
 
-      pub walk-flag : (m : ℕ) → instructionAt numbers n ≡ Flag m → Walk (n + 1) used taken counters delays (set bits n (hasFlag m frame))
+      pub walk-flag : (m : ℕ) → instructionAt numbers n ≡ Flag m → Executing (n + 1) used taken counters delays (set bits n (hasFlag m frame))
       unfolding execute
       walk-flag m e =
           more k f h (Flag m) e (hasFlag m frame) used taken counters delays (rw (← w .own-counters, ← w .own-used, ← w .own-delays, ← w .own-taken)) (omega arith) (omega arith) refl refl
 
       module _ (i j : ℕ) where
-        pub walk-nand : instructionAt numbers n ≡ Nand i j → (b : Bool) → b ≡ not (getD bits i false && getD bits j false) → Walk (n + 1) used taken counters delays (set bits n b)
+        pub walk-nand : instructionAt numbers n ≡ Nand i j → (b : Bool) → b ≡ not (getD bits i false && getD bits j false) → Executing (n + 1) used taken counters delays (set bits n b)
         unfolding execute
         walk-nand e b own =
             let t = here k f h (Nand i j) e in
             let is : b ≡ not (bit (done n) i && bit (done n) j) = own ∙ rw (bit-read i (omega (arith, t .earlier)), bit-read j (omega (arith, t .earlier))) in
             more k f h (Nand i j) e b used taken counters delays (rw (← w .own-counters, ← w .own-used, ← w .own-delays, ← w .own-taken, is)) (omega arith) (omega arith) refl refl
 
-        pub walk-reach : (width : ℕ) → instructionAt numbers n ≡ Reach i j width → (m : ℕ) → m ≡ kept (next width (getD bits i false) (getD bits j false) (counterOf (getD counters used 0))) → Walk (n + 1) (used + 1) taken (set counters used m) delays (set bits n (not (eqb m 0)))
+        pub walk-reach : (width : ℕ) → instructionAt numbers n ≡ Reach i j width → (m : ℕ) → m ≡ kept (next width (getD bits i false) (getD bits j false) (counterOf (getD counters used 0))) → Executing (n + 1) (used + 1) taken (set counters used m) delays (set bits n (not (eqb m 0)))
         unfolding execute
         walk-reach width e m own =
             let t = here k f h (Reach i j width) e in
@@ -185,7 +186,7 @@ module _ (numbers : List ℕ) (frame : ℕ) (r : Registers) (bits₀ : List Bool
             let on : not (eqb m 0) ≡ isOn q = rw is (is-on q) in
             more k f h (Reach i j width) e (not (eqb m 0)) (used + 1) taken (set counters used m) delays (rw (on, is, ← w .own-counters, ← w .own-used, ← w .own-delays, ← w .own-taken)) (omega arith) (omega arith) (length-set counters used m) refl
 
-        pub walk-later : instructionAt numbers n ≡ Later i j → (p d : ℕ) → p ≡ taken → d ≡ j → let oldest = getD delays p false in Walk (n + 1) used (taken + j) counters (shifted delays taken d (getD (set bits n oldest) i false)) (set bits n oldest)
+        pub walk-later : instructionAt numbers n ≡ Later i j → (p d : ℕ) → p ≡ taken → d ≡ j → let oldest = getD delays p false in Executing (n + 1) used (taken + j) counters (shifted delays taken d (getD (set bits n oldest) i false)) (set bits n oldest)
         unfolding execute
         walk-later e p d first own =
             let t = here k f h (Later i j) e in
@@ -195,7 +196,7 @@ module _ (numbers : List ℕ) (frame : ℕ) (r : Registers) (bits₀ : List Bool
             (more k f h (Later i j) e oldest used (taken + j) counters _ (rw (is, ← w .own-counters, ← w .own-used, ← w .own-delays, ← w .own-taken)) (omega arith) (omega arith) refl (shifted-length delays taken j _ (omega (arith, t .some)) (omega (arith, t .own-line))))
 
   -- Once all instructions are done
-  pub walk-all : {n used taken : ℕ} {counters : List ℕ} {delays bits : List Bool} → Walk n used taken counters delays bits → (k : ℕ) → n ≡ k → 1 ≤ k → Leaves (codeIn numbers k) (executed frame (codeIn numbers k) (start r)) bits₀ counters delays bits (getD bits (k - 1) false)
+  pub walk-all : {n used taken : ℕ} {counters : List ℕ} {delays bits : List Bool} → Executing n used taken counters delays bits → (k : ℕ) → n ≡ k → 1 ≤ k → Leaves (codeIn numbers k) (executed frame (codeIn numbers k) (start r)) bits₀ counters delays bits (getD bits (k - 1) false)
   walk-all {n} w k e some =
       rw (← e)
       (record {

@@ -7,7 +7,7 @@ use native.Mathlib.Nat.{add-zero}
 use native.Mathlib.Omega.{arith}
 use lib.ListN.{length, length-append, List·getD-append}
 use Rattle.sequencer.specs.Bits.{Wire, wire, wireOf, wiresFrom}
-use Rattle.sequencer.specs.Code.{Code}
+use Rattle.code.specs.Code.{Code}
 
 pub wires-append : (ws : List Wire) (c d : Code) → wiresFrom ws (c ++ d) ≡ wiresFrom (wiresFrom ws c) d
 unfolding wiresFrom

@@ -2,10 +2,10 @@
 use mathlib.Core.Bool.{Bool}
 use mathlib.Core.List.{List, [], _∷_, _++_}
 use Prim.Native.Nat.{ℕ, zero, suc}
-use Rattle.reading.specs.Buffers.{over}
-use Rattle.reading.specs.Frames.{Clip}
+use Rattle.ground.specs.Buffers.{over}
+use Rattle.ground.specs.Frames.{Clip}
 use Rattle.sequencer.specs.Bits.{Wire, counter, later, wire, wireOf}
-use Rattle.sequencer.specs.Code.{Instruction, One, Flag, Nand, Reach, Later, Code}
+use Rattle.code.specs.Code.{Instruction, One, Flag, Nand, Reach, Later, Code}
 use Rattle.sequencer.specs.Registers.{kept, freshRegisters, start, executed, registersOf}
 use Rattle.sequencer.specs.declared.registers.Registers.{Registers}
 

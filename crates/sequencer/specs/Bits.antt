@@ -7,8 +7,8 @@ use mathlib.Core.List.{List, [], _∷_, _++_}
 use Prim.Native.Nat.{ℕ, _+_, _-_, _≤_, _<_}
 use lib.Dec.{ltb}
 use lib.ListN.{length, getD, drop}
-use Rattle.reading.specs.Frames.{Clip, hasFlag}
-use Rattle.sequencer.specs.Code.{Instruction, One, Flag, Nand, Reach, Later, Code}
+use Rattle.ground.specs.Frames.{Clip, hasFlag}
+use Rattle.code.specs.Code.{Instruction, One, Flag, Nand, Reach, Later, Code}
 
 -- A bit after each clip
 abbrev pub Wire : Type 0

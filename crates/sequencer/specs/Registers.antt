@@ -4,9 +4,9 @@ use mathlib.Core.Bool.{Bool, true, false, not, _&&_}
 use mathlib.Core.List.{List, [], _∷_, _++_}
 use Prim.Native.Nat.{ℕ, zero, suc, _+_, _-_}
 use lib.ListN.{length, getD, take, drop, set, replicate}
-use Rattle.reading.specs.Frames.{hasFlag}
-use Rattle.reading.specs.Limits.{limits}
-use Rattle.sequencer.specs.Code.{Instruction, One, Flag, Nand, Reach, Later, Code}
+use Rattle.ground.specs.Frames.{hasFlag}
+use Rattle.ground.specs.Limits.{limits}
+use Rattle.code.specs.Code.{Instruction, One, Flag, Nand, Reach, Later, Code}
 use Rattle.sequencer.specs.Bits.{Counter, none, count, next, isOn}
 use Rattle.sequencer.specs.declared.registers.Registers.{Registers}
 

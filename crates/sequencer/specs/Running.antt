@@ -1,23 +1,18 @@
 -- The run. Document 01: "Run: code, 13, 16; the run writes one byte a frame", "13 clip empty or over 65,535 frames", "16 output buffer shorter than the answer", "starts at the
 -- buffer's first byte, and the bytes behind the answer stay". The byte of a frame is the output after the clip from that frame to its end.
-use mathlib.Core.Bool.{Bool, true, false, cond, _||_}
+use mathlib.Core.Bool.{Bool, cond, _||_}
 use mathlib.Core.List.{List, [], _∷_}
 use Prim.Native.Nat.{ℕ}
 use lib.Dec.{ltb, eqb}
 use lib.ListN.{length}
-use Rattle.reading.specs.Buffers.{tooShort, over}
-use Rattle.reading.specs.Frames.{Clip}
-use Rattle.reading.specs.InTurn.{Walked, items, refused}
-use Rattle.reading.specs.Limits.{limits}
-use Rattle.reading.specs.declared.refusal.Refusal.{Refusal}
+use Rattle.ground.specs.Buffers.{byteOf, tooShort, over}
+use Rattle.ground.specs.Frames.{Clip}
+use Rattle.reading.specs.InTurn.{AllRead, items, refused}
+use Rattle.ground.specs.Limits.{limits}
+use Rattle.ground.specs.declared.refusal.Refusal.{Refusal}
 use Rattle.sequencer.specs.Bits.{output}
-use Rattle.sequencer.specs.Code.{Instruction, Code}
+use Rattle.code.specs.Code.{Instruction, Code}
 use Rattle.sequencer.specs.declared.run.Ran.{Ran}
-
--- A bit as a byte: 1 or 0
-abbrev pub byteOf : Bool → ℕ
-byteOf true = 1
-byteOf false = 0
 
 -- One byte for each frame
 unfoldable pub verdicts : Code → Clip → List ℕ
@@ -29,7 +24,7 @@ unfoldable pub badClip : ℕ → Bool
 badClip frames = eqb frames 0 || ltb (limits .frames) frames
 
 -- What a run answers
-abbrev pub ranOf : Walked Instruction → Clip → List ℕ → Ran
+abbrev pub ranOf : AllRead Instruction → Clip → List ℕ → Ran
 ranOf (items code) clip out =
     cond (badClip (length clip)) (Ran.Refused Refusal.BadClip)
     (cond (tooShort out clip) (Ran.Refused Refusal.ShortOutput) Ran.Done)

@@ -1,8 +1,8 @@
 -- The step. Document 01: "The sequencer takes one frame at a time .. and hands its registers back", "A step refuses code as the
 -- run does and then hands the registers back unchanged."
 use Prim.Native.Nat.{ℕ}
-use Rattle.reading.specs.InTurn.{Walked, items, refused}
-use Rattle.sequencer.specs.Code.{Instruction, Code}
+use Rattle.reading.specs.InTurn.{AllRead, items, refused}
+use Rattle.code.specs.Code.{Instruction, Code}
 use Rattle.sequencer.specs.Registers.{Working, start, executed, registersOf, outputOf}
 use Rattle.sequencer.specs.declared.registers.Advanced.{Advanced}
 use Rattle.sequencer.specs.declared.registers.Output.{Output}
@@ -22,6 +22,6 @@ abbrev pub steppedBy : Advanced → Stepped
 steppedBy a = record { output = Output.Bit (a .bit); registers = a .registers }
 
 -- What a step hands back
-abbrev pub steppedOf : Walked Instruction → ℕ → Registers → Stepped
+abbrev pub steppedOf : AllRead Instruction → ℕ → Registers → Stepped
 steppedOf (items code) frame r = steppedBy (advancedBy code frame r)
 steppedOf (refused refusal) frame r = record { output = Output.Refused refusal; registers = r }

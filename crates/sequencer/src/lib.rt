@@ -1,5 +1,3 @@
-// The sequencer: code that loads, registers, one step, and the run over a clip. It knows nothing of rules.
-mod judge;
-pub mod load;
+// The sequencer: registers, one step, and the run over a clip. It knows nothing of rules.
 pub mod registers;
 pub mod run;

@@ -3,19 +3,20 @@ ghost use mathlib.Core.Bool.{not, _&&_};
 ghost use mathlib.Core.Path.{_≡_};
 ghost use Prim.Native.Nat.{_+_, _-_, _≤_, _<_};
 ghost use lib.ListN.{length};
-ghost use Rattle.reading.specs.Frames.{hasFlag};
-ghost use Rattle.reading.specs.Limits.{limits};
+ghost use Rattle.ground.specs.Frames.{hasFlag};
+ghost use Rattle.ground.specs.Limits.{limits};
 ghost use Rattle.sequencer.specs.Bits.{next};
-ghost use Rattle.sequencer.specs.Loading.{readCode};
+ghost use Rattle.code.specs.Loading.{readCode};
 ghost use Rattle.sequencer.specs.Registers.{counterOf, kept, freshRegisters, start, executed, shifted};
 ghost use Rattle.sequencer.specs.Stepping.{advancedBy, steppedOf};
-ghost use Rattle.sequencer.specs.Programs.{codeIn, Sound, Fits, Leaves};
-use crate::load::Loaded;
-use crate::load::decode;
-use reading::limits::COUNTERS;
-use reading::limits::DELAYS;
-use reading::limits::MOST_INSTRUCTIONS;
-use reading::refusal::Refusal;
+ghost use Rattle.code.specs.Programs.{codeIn, Sound};
+ghost use Rattle.sequencer.specs.Inner.Through.{Fits, Leaves};
+use code::load::LoadedCode;
+use code::load::decode;
+use ground::limits::COUNTERS;
+use ground::limits::DELAYS;
+use ground::limits::MOST_INSTRUCTIONS;
+use ground::refusal::Refusal;
 
 // What stands for "none" in a counter; a count is kept as one more.
 const NONE: u16 = 0;
@@ -187,7 +188,7 @@ impl Registers {
         let program = decode(code);
         let loaded = program.loaded;
         match loaded {
-            Loaded::Accepted(count) => {
+            LoadedCode::Accepted(count) => {
                 let numbers = program.numbers;
                 let advanced = self.advance(&numbers, count, frame);
                 let registers = advanced.registers;
@@ -196,7 +197,7 @@ impl Registers {
                     registers,
                 }
             }
-            Loaded::Refused(refusal) => Stepped {
+            LoadedCode::Refused(refusal) => Stepped {
                 output: Output::Refused(refusal),
                 registers: self,
             },

@@ -1,17 +1,19 @@
 // The run: code over a clip, from the last frame to the first, one byte for each frame.
 ghost use mathlib.Core.Path.{_≡_};
-ghost use Rattle.reading.specs.Buffers.{over};
-ghost use Rattle.sequencer.specs.Loading.{readCode, codeOf};
-ghost use Rattle.sequencer.specs.Running.{badClip, byteOf, verdicts, ranOf, bufferAfter};
-ghost use Rattle.sequencer.specs.Programs.{codeIn, Loads};
-use crate::load::Loaded;
-use crate::load::decode;
+ghost use Rattle.ground.specs.Buffers.{over};
+ghost use Rattle.code.specs.Loading.{readCode, codeOf};
+ghost use Rattle.sequencer.specs.Running.{badClip, verdicts, ranOf, bufferAfter};
+ghost use Rattle.code.specs.Programs.{codeIn};
+ghost use Rattle.sequencer.specs.Inner.Through.{CanRun};
 use crate::registers::frame_through;
-use reading::limits::COUNTERS;
-use reading::limits::DELAYS;
-use reading::limits::MOST_FRAMES;
-use reading::limits::MOST_INSTRUCTIONS;
-use reading::refusal::Refusal;
+use code::load::LoadedCode;
+use code::load::decode;
+use ground::byte::byte_of;
+use ground::limits::COUNTERS;
+use ground::limits::DELAYS;
+use ground::limits::MOST_FRAMES;
+use ground::limits::MOST_INSTRUCTIONS;
+use ground::refusal::Refusal;
 
 // What a run answers: the verdicts are written, or the refusal.
 pub enum Ran {
@@ -29,19 +31,9 @@ fn bad_clip(frames: usize) -> bool
     MOST_FRAMES < frames
 }
 
-// A bit as a byte.
-pub fn byte_of(bit: bool) -> u8
-    ensures { λ r. ⌜ r ≡ byteOf bit ⌝ }
-{
-    if bit {
-        return 1;
-    }
-    0
-}
-
 // Runs code that is loaded over a clip, from the last frame to the first, and writes a verdict for each.
 fn run_frames(numbers: &[u16], count: usize, clip: &[u8], out: &mut [u8])
-    requires { ⌜ Loads (now numbers) count (now clip) (now out) ⌝ }
+    requires { ⌜ CanRun (now numbers) count (now clip) (now out) ⌝ }
     ensures { λ r. ⌜ now (out .exit) ≡ over (verdicts (codeIn (now (numbers .entry)) count) (now (clip .entry))) (now (out .entry)) ⌝ }
 {
     let mut counters = [0u16; COUNTERS];
@@ -71,7 +63,7 @@ pub fn run(code: &[u8], clip: &[u8], out: &mut [u8]) -> Ran
     let program = decode(code);
     let loaded = program.loaded;
     match loaded {
-        Loaded::Accepted(count) => {
+        LoadedCode::Accepted(count) => {
             let bad = bad_clip(clip.len());
             let short = out.len() < clip.len();
             if bad {
@@ -84,6 +76,6 @@ pub fn run(code: &[u8], clip: &[u8], out: &mut [u8]) -> Ran
             run_frames(&numbers, count, clip, &mut *out);
             Ran::Done
         }
-        Loaded::Refused(refusal) => Ran::Refused(refusal),
+        LoadedCode::Refused(refusal) => Ran::Refused(refusal),
     }
 }

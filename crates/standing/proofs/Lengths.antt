@@ -4,10 +4,10 @@ use mathlib.Core.List.{[], _∷_}
 use Prim.Native.Nat.{ℕ, _+_, _*_, _≤_, _<_}
 use native.Mathlib.Omega.{arith}
 use lib.ListN.{length, length-append}
-use Rattle.reading.specs.Frames.{Clip}
-use Rattle.reading.specs.Refusals.{numberOf, placeOf}
-use Rattle.reading.specs.declared.refusal.Refusal.{Refusal}
-use Rattle.reading.proofs.Refusals.{numbered}
+use Rattle.ground.specs.Frames.{Clip}
+use Rattle.ground.specs.Refusals.{numberOf, placeOf}
+use Rattle.ground.specs.declared.refusal.Refusal.{Refusal}
+use Rattle.ground.proofs.Refusals.{numbered}
 use Rattle.standing.specs.Text.{ascii, spaced, framesText, headText, metText, noneText, refusedText}
 use Rattle.standing.proofs.Decimal.{five-digits}
 

@@ -8,15 +8,15 @@ use native.Mathlib.Decide.{decLe}
 use native.Mathlib.Omega.{arith}
 use borrow.Author.Tests.{lt-ltb}
 use lib.ListN.{length, take, length-append, length-take}
-use Rattle.reading.specs.Buffers.{AllBytes}
-use Rattle.reading.specs.declared.refusal.Refusal.{Refusal}
+use Rattle.ground.specs.Buffers.{AllBytes}
+use Rattle.ground.specs.declared.refusal.Refusal.{Refusal}
 use Rattle.rules.specs.Accepted.{IsRule}
 use Rattle.rules.specs.Formula.{Formula, horizon}
 use Rattle.rules.specs.Loading.{Items, Reading, accepted, refused, readRule}
 use Rattle.rules.proofs.Accepted.{accepted-rule}
 use Rattle.rules.proofs.Places.{rule-place}
 use Rattle.finder.specs.Demand.{Demanded}
-use Rattle.finder.specs.Finding.{shortWitness, SearchSays}
+use Rattle.finder.specs.Search.{shortWitness, SearchSays}
 use Rattle.finder.specs.declared.search.Found.{Found}
 use Rattle.finder.proofs.Demand.{demand-two}
 use Rattle.finder.proofs.Small.{Small, said-small}

@@ -3,19 +3,19 @@ use mathlib.Core.Path.{_≡_, refl, ap, _∙_}
 use mathlib.Core.List.{List, [], _∷_}
 use Prim.Native.Nat.{ℕ, _≤_}
 use lib.ListN.{length, drop}
-use Rattle.reading.specs.Buffers.{over}
-use Rattle.reading.specs.InTurn.{walked, inTurn}
+use Rattle.ground.specs.Buffers.{over}
+use Rattle.reading.specs.InTurn.{readAll, inTurn}
 use Rattle.reading.specs.Items.{itemAt, numbersFrom, look, ruleCodes}
 use Rattle.reading.specs.Numbers.{numberAt}
-use Rattle.reading.specs.declared.refusal.Refusal.{Refusal}
+use Rattle.ground.specs.declared.refusal.Refusal.{Refusal}
 use Rattle.rules.specs.Formula.{horizon}
 use Rattle.rules.specs.Items.{itemOf, apply}
-use Rattle.rules.specs.Loading.{stackFrom, timedIn, lowerIn, countsOf, countedOf, badWindow, tooLarge, judgeOf, readRule}
-use Rattle.finder.specs.Finding.{roomOf}
+use Rattle.rules.specs.Loading.{stackFrom, timedIn, lowerIn, ruleCounts, ruleCounted, badWindow, ruleTooLarge, checkItem, readRule}
+use Rattle.table.specs.Room.{roomOf}
 use Rattle.finder.specs.Samples.{samples}
 use Rattle.finder.specs.declared.search.Found.{Found}
 use Rattle.finder.proofs.Samples.{samples-right}
-use Rattle.standing.specs.Standing.{standingText, Stands}
+use Rattle.standing.specs.Standing.{standingText, Prints}
 use Rattle.standing.specs.Text.{ascii, digitsIn, decimal, spaced, metText, noneText, refusedText}
 
 -- the fifth rule, and the lines that the document has for it
@@ -27,12 +27,12 @@ example = ascii "rule 5 bytes 2 items\nhorizon 4\nmet 3 frames 4 states\n00 00 0
 
 -- they are the text, with what the search finds for the rule
 pub met-sample : (rest : List ℕ) → standingText (length fifth) (readRule fifth) (Found.Met 3 4) (0x00 ∷ 0x00 ∷ 0x01 ∷ rest) ≡ example
-unfolding ascii digitsIn decimal spaced readRule walked inTurn itemAt numbersFrom look ruleCodes numberAt judgeOf badWindow tooLarge countsOf countedOf timedIn lowerIn stackFrom apply itemOf horizon
+unfolding ascii digitsIn decimal spaced readRule readAll inTurn itemAt numbersFrom look ruleCodes numberAt checkItem badWindow ruleTooLarge ruleCounts ruleCounted timedIn lowerIn stackFrom apply itemOf horizon
 met-sample rest = refl
 
 -- so this is what `write_standing` writes for it, whatever its buffers are, if the table has room for the states and the witness buffer for horizon + 1 bytes
 pub met-stands : (table witness text : List ℕ) → 4 ≤ roomOf table → 5 ≤ length witness → (end : ℕ) (table′ witness′ text′ : List ℕ)
-    → Stands fifth table witness text end table′ witness′ text′ → text′ ≡ over example text
+    → Prints fifth table witness text end table′ witness′ text′ → text′ ≡ over example text
 unfolding samples
 met-stands table witness text room long end table′ witness′ text′ s =
     let (found, tables, left) = samples-right .1 .1 .1 .1 .0 .1 table witness room long (s .found) table′ witness′ (s .says) in

@@ -7,16 +7,15 @@ use native.Mathlib.Nat.{zero-add}
 use native.Mathlib.Omega.{arith}
 use borrow.Author.Tests.{le-leb}
 use lib.ListN.{length, take, length-append}
-use Rattle.reading.specs.Buffers.{AllBytes}
-use Rattle.reading.specs.Numbers.{written}
-use Rattle.reading.specs.declared.refusal.Refusal.{Refusal}
+use Rattle.ground.specs.Buffers.{AllBytes, written}
+use Rattle.ground.specs.declared.refusal.Refusal.{Refusal}
 use Rattle.rules.specs.Formula.{Formula, horizon}
 use Rattle.rules.specs.Loading.{Items, accepted, readRule, loadedOf}
 use Rattle.rules.specs.declared.load.Loaded.{Loaded}
 use Rattle.rules.proofs.Accepted.{loaded-accepted, loaded-refused}
-use Rattle.finder.specs.Finding.{SearchSays}
+use Rattle.finder.specs.Search.{SearchSays}
 use Rattle.finder.specs.declared.search.Found.{Found}
-use Rattle.standing.specs.Standing.{mostText, standingText, Stands}
+use Rattle.standing.specs.Standing.{mostText, standingText, Prints}
 use Rattle.standing.specs.Text.{headText, metText, noneText, refusedText}
 use Rattle.standing.specs.Writing.{Room, Wrote}
 use Rattle.standing.proofs.Said.{shown, text-fits}
@@ -68,7 +67,7 @@ module _ {rule table witness text : List ℕ} {loaded : Loaded} {found : Found} 
 
   -- Once it is written it stands there
   pub stands : {text′ : List ℕ} {end : ℕ} → Wrote text 0 (standingText (length rule) (readRule rule) found witness′) text′ end
-      → Stands rule table witness text end table′ witness′ text′
+      → Prints rule table witness text end table′ witness′ text′
   unfolding written
   stands w =
       record {
@@ -80,5 +79,5 @@ module _ {rule table witness text : List ℕ} {loaded : Loaded} {found : Found} 
 
 -- and lies within the buffer
 pub text-inside : {rule table witness text : List ℕ} {end : ℕ} {table′ witness′ text′ : List ℕ}
-    → Stands rule table witness text end table′ witness′ text′ → end ≤ length text′
+    → Prints rule table witness text end table′ witness′ text′ → end ≤ length text′
 text-inside s = rw (s .own-text, s .own-length, length-append) (omega arith)

@@ -4,13 +4,13 @@ use mathlib.Core.Path.{_≡_, sym, ap, _∙_}
 use mathlib.Core.List.{List}
 use Prim.Native.Nat.{ℕ}
 use lib.ListN.{length}
-use Rattle.reading.specs.Buffers.{over}
+use Rattle.ground.specs.Buffers.{over}
 use Rattle.rules.specs.Loading.{readRule}
 use Rattle.finder.proofs.Unique.{says-one}
-use Rattle.standing.specs.Standing.{standingText, Stands}
+use Rattle.standing.specs.Standing.{standingText, Prints}
 use Rattle.standing.proofs.standing.write_standing.Reads as write-standing
 
-stands-one : (rule table witness text : List ℕ) (m n : ℕ) (t u v w x y : List ℕ) → Stands rule table witness text m t v x → Stands rule table witness text n u w y
+stands-one : (rule table witness text : List ℕ) (m n : ℕ) (t u v w x y : List ℕ) → Prints rule table witness text m t v x → Prints rule table witness text n u w y
     → (m ≡ n) × (t ≡ u) × (v ≡ w) × (x ≡ y)
 stands-one rule table witness text m n t u v w x y p q =
     let (found, tables, witnesses) = says-one table witness (p .found) (q .found) t u v w (readRule rule) (p .says) (q .says) in

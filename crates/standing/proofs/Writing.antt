@@ -7,8 +7,8 @@ use native.Mathlib.Nat.{add-zero}
 use native.Mathlib.Omega.{arith}
 use lib.ListN.{length, length-append}
 use lib.Seq.{sets}
-use Rattle.reading.specs.Numbers.{written, placeAfter}
-use Rattle.reading.proofs.Written.{nothing, fitting, room-more, written-more}
+use Rattle.ground.specs.Buffers.{written, placeAfter}
+use Rattle.ground.proofs.Written.{nothing, fitting, room-more, written-more}
 use Rattle.standing.specs.Writing.{Room, Wrote}
 
 -- Two pieces: room for each, and both at once

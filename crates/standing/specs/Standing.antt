@@ -4,11 +4,11 @@ use mathlib.Core.Path.{_≡_}
 use mathlib.Core.List.{List, _++_}
 use Prim.Native.Nat.{ℕ, _+_, _*_}
 use lib.ListN.{length, take}
-use Rattle.reading.specs.Buffers.{over}
+use Rattle.ground.specs.Buffers.{over}
 use Rattle.rules.specs.Accepted.{mostHorizon}
 use Rattle.rules.specs.Formula.{horizon}
 use Rattle.rules.specs.Loading.{Reading, accepted, refused, readRule}
-use Rattle.finder.specs.Finding.{SearchSays}
+use Rattle.finder.specs.Search.{SearchSays}
 use Rattle.finder.specs.declared.search.Found.{Found}
 use Rattle.standing.specs.Text.{headText, metText, noneText, refusedText}
 
@@ -25,7 +25,7 @@ standingText bytes (accepted is f) (Found.Refused r) witness = refusedText r
 standingText bytes (refused r) found witness = refusedText r
 
 -- The text stands over the first bytes of its buffer, and says what the search says
-pub record Stands (rule table witness text : List ℕ) (end : ℕ) (table′ witness′ text′ : List ℕ) : Type 0 where
+pub record Prints (rule table witness text : List ℕ) (end : ℕ) (table′ witness′ text′ : List ℕ) : Type 0 where
   pub found : Found
   pub says : SearchSays (readRule rule) table witness found table′ witness′
   pub own-text : text′ ≡ over (standingText (length rule) (readRule rule) found witness′) text

@@ -7,9 +7,9 @@ use Prim.Native.Nat.{ℕ, zero, suc, _+_, _/_, _%_}
 use Prim.Native.String.{String, [] as []ˢ, _∷_ as _∷ˢ_}
 use lib.Dec.{ltb}
 use lib.ListN.{length}
-use Rattle.reading.specs.Frames.{Clip}
-use Rattle.reading.specs.Refusals.{numberOf, placeOf}
-use Rattle.reading.specs.declared.refusal.Refusal.{Refusal}
+use Rattle.ground.specs.Frames.{Clip}
+use Rattle.ground.specs.Refusals.{numberOf, placeOf}
+use Rattle.ground.specs.declared.refusal.Refusal.{Refusal}
 
 -- Words as bytes
 unfoldable pub ascii : String → List ℕ

@@ -3,7 +3,7 @@ use mathlib.Core.Path.{_≡_}
 use mathlib.Core.List.{List}
 use Prim.Native.Nat.{ℕ, _+_, _≤_}
 use lib.ListN.{length}
-use Rattle.reading.specs.Numbers.{written}
+use Rattle.ground.specs.Buffers.{written}
 
 -- There is room for bytes from a place on
 abbrev pub Room : List ℕ → ℕ → List ℕ → Type 0

@@ -2,17 +2,17 @@
 ghost use lib.ListN.{length};
 ghost use Prim.Native.Nat.{_≤_};
 ghost use Rattle.standing.specs.Text.{headText, metText, noneText, refusedText};
-ghost use Rattle.standing.specs.Standing.{mostText, Stands};
+ghost use Rattle.standing.specs.Standing.{mostText, Prints};
 ghost use Rattle.standing.specs.Writing.{Room, Wrote};
 use crate::text::write_count;
 use crate::text::write_frames;
 use finder::search::Found;
 use finder::search::search;
-use reading::buffer::write_bytes;
-use reading::number::wide;
-use reading::refusal::Refusal;
-use reading::refusal::number;
-use reading::refusal::place;
+use ground::buffer::write_bytes;
+use ground::byte::wide;
+use ground::refusal::Refusal;
+use ground::refusal::number;
+use ground::refusal::place;
 use rules::load::Loaded;
 use rules::load::load;
 
@@ -68,7 +68,7 @@ pub(crate) fn write_standing(
     text: &mut [u8],
 ) -> usize
     requires { ⌜ mostText ≤ length (now text) ⌝ }
-    ensures { λ r. ⌜ Stands (now (rule .entry)) (now (table .entry)) (now (witness .entry)) (now (text .entry)) r (now (table .exit)) (now (witness .exit)) (now (text .exit)) ⌝ }
+    ensures { λ r. ⌜ Prints (now (rule .entry)) (now (table .entry)) (now (witness .entry)) (now (text .entry)) r (now (table .exit)) (now (witness .exit)) (now (text .exit)) ⌝ }
 {
     match load(rule) {
         Loaded::Accepted { items, horizon } => match search(rule, table, &mut *witness) {

@@ -5,7 +5,7 @@ ghost use Prim.Native.Nat.{_+_, _≤_, _<_};
 ghost use lib.ListN.{length, drop};
 ghost use Rattle.standing.specs.Text.{digit as Text·digit, decimal, hexByte, spaced, framesText};
 ghost use Rattle.standing.specs.Writing.{Room, Wrote};
-use reading::buffer::write_bytes;
+use ground::buffer::write_bytes;
 
 // A digit: `0` to `9`, then `a` to `f`.
 fn digit(value: u8) -> u8

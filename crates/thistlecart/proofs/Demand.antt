@@ -5,25 +5,25 @@ use mathlib.Core.List.{List, _++_}
 use mathlib.Core.Logic.{_⊎_, inl, inr}
 use Prim.Native.Nat.{ℕ}
 use lib.ListN.{length, replicate}
-use Rattle.reading.specs.Frames.{Clip}
-use Rattle.reading.specs.Refusals.{numberOf}
-use Rattle.reading.specs.declared.refusal.Refusal.{Refusal}
+use Rattle.ground.specs.Frames.{Clip}
+use Rattle.ground.specs.Refusals.{numberOf}
+use Rattle.ground.specs.declared.refusal.Refusal.{Refusal}
 use Rattle.rules.specs.Formula.{Formula}
 use Rattle.rules.specs.Loading.{Reading, accepted, refused, readRule, loadedOf}
-use Rattle.sequencer.specs.Code.{Code}
-use Rattle.sequencer.specs.Loading.{readCode, codeOf}
+use Rattle.code.specs.Code.{Code}
+use Rattle.code.specs.Loading.{readCode, codeOf}
 use Rattle.sequencer.specs.Running.{ranOf, bufferAfter}
 use Rattle.sequencer.specs.declared.run.Ran.{Ran}
-use Rattle.emitter.specs.Emitting.{emittedOf, outAfter}
+use Rattle.emitter.specs.Emit.{emittedOf, outAfter}
 use Rattle.emitter.specs.declared.emit.Emitted.{Emitted}
 use Rattle.paths.specs.Answers.{Answer, met, none, noRoom}
-use Rattle.finder.specs.Finding.{foundOf, witnessAfter, shortWitness, RuleSays, SearchSays}
+use Rattle.finder.specs.Search.{foundOf, witnessAfter, shortWitness, RuleSays, SearchSays}
 use Rattle.finder.specs.declared.search.Found.{Found}
 use Rattle.makers.specs.Making.{oneMade, twoMade, madeAfter}
 use Rattle.makers.specs.declared.make.Made.{Made}
-use Rattle.thistlecart.specs.Accessors.{refusalIn, TellsFound, TellsEmitted, TellsRan, TellsMade}
+use Rattle.thistlecart.specs.Accessors.{refusalTold, TellsFound, TellsEmitted, TellsRan, TellsMade}
 use Rattle.thistlecart.specs.Demand.{IsRefused, DemandOne}
-use Rattle.thistlecart.specs.Fits.{MadeFits}
+use Rattle.thistlecart.specs.Inner.Fits.{MadeFits}
 use Rattle.thistlecart.specs.Words.{madeWord}
 use Rattle.thistlecart.proofs.Accessors.{loaded-told, found-told, emitted-told, ran-told, made-told}
 use Rattle.thistlecart.proofs.Fits.{loaded-fits, found-fits, emitted-fits, ran-fits, one-fits, two-fits}
@@ -50,7 +50,7 @@ maker-demand made new out fits word out′ (own, left) =
 -- a refused search leaves the witness buffer as it was, and the table, unless it is 15
 abbrev Stays : List ℕ → List ℕ → ℕ → List ℕ → List ℕ → Type 0
 Stays table witness word table′ witness′ =
-    (witness′ ≡ witness) × ((table′ ≡ table) ⊎ ((refusalIn word ≡ numberOf Refusal.NoRoom) × (table′ ≡ replicate (length table) 0)))
+    (witness′ ≡ witness) × ((table′ ≡ table) ⊎ ((refusalTold word ≡ numberOf Refusal.NoRoom) × (table′ ≡ replicate (length table) 0)))
 
 module _ (table witness : List ℕ) (found : Found) (word : ℕ) (table′ witness′ : List ℕ) (told : TellsFound found word) (no-answer : IsRefused word) where
   answer-stays : (a : Answer) → found ≡ foundOf a → witness′ ≡ witnessAfter a witness → table′ ≡ replicate (length table) 0 → Stays table witness word table′ witness′

@@ -6,33 +6,33 @@ use mathlib.Core.List.{List, _++_}
 use Prim.Native.Nat.{ℕ, _+_, _*_, _≤_, _<_}
 use native.Mathlib.Omega.{arith}
 use lib.ListN.{length}
-use Rattle.reading.specs.Buffers.{AllBytes, tooShort}
-use Rattle.reading.specs.Frames.{Clip}
-use Rattle.reading.specs.InTurn.{Walked}
-use Rattle.reading.specs.declared.refusal.Refusal.{Refusal}
-use Rattle.reading.proofs.Buffers.{bytes-joined}
-use Rattle.reading.proofs.Choices.{both-ways}
-use Rattle.reading.proofs.Refusals.{numbered}
+use Rattle.ground.specs.Buffers.{AllBytes, tooShort}
+use Rattle.ground.specs.Frames.{Clip}
+use Rattle.reading.specs.InTurn.{AllRead}
+use Rattle.ground.specs.declared.refusal.Refusal.{Refusal}
+use Rattle.ground.proofs.Buffers.{bytes-joined}
+use Rattle.ground.proofs.Choices.{both-ways}
+use Rattle.ground.proofs.Refusals.{numbered}
 use Rattle.rules.specs.Loading.{Reading, accepted, refused, readRule, loadedOf}
 use Rattle.rules.proofs.Accepted.{accepted-rule}
 use Rattle.rules.proofs.Places.{rule-place}
-use Rattle.sequencer.specs.Code.{Instruction}
-use Rattle.sequencer.specs.Loading.{readCode}
+use Rattle.code.specs.Code.{Instruction}
+use Rattle.code.specs.Loading.{readCode}
 use Rattle.sequencer.specs.Running.{badClip, ranOf}
 use Rattle.sequencer.specs.declared.run.Ran.{Ran}
-use Rattle.sequencer.proofs.Places.{code-place}
-use Rattle.emitter.specs.Emitting.{emittedOf}
+use Rattle.code.proofs.Places.{code-place}
+use Rattle.emitter.specs.Emit.{emittedOf}
 use Rattle.emitter.specs.declared.emit.Emitted.{Emitted}
 use Rattle.emitter.specs.Translation.{codeBytes}
 use Rattle.emitter.proofs.Accepted.{code-bytes}
-use Rattle.finder.specs.Finding.{SearchSays}
+use Rattle.finder.specs.Search.{SearchSays}
 use Rattle.finder.specs.declared.search.Found.{Found}
 use Rattle.finder.proofs.Small.{Small, said-small}
 use Rattle.makers.specs.Making.{whichOf, orElse, newMade, oneMade, twoMade}
 use Rattle.makers.specs.declared.make.Which.{Which}
 use Rattle.makers.specs.declared.make.Made.{Made}
 use Rattle.thistlecart.specs.Words.{bit40, refusalWord}
-use Rattle.thistlecart.specs.Fits.{PlaceFits, LoadedFits, FoundFits, EmittedFits, RanFits, MadeFits}
+use Rattle.thistlecart.specs.Inner.Fits.{PlaceFits, LoadedFits, FoundFits, EmittedFits, RanFits, MadeFits}
 
 -- one of three
 which-small : (which : Which) → whichOf which ≤ 3
@@ -63,11 +63,11 @@ emitted-fits rule out small = go (readRule rule) refl
 pub ran-fits : (code : List ℕ) (clip : Clip) (out : List ℕ) → AllBytes code → RanFits (ranOf (readCode code) clip out)
 ran-fits code clip out small = go (readCode code) refl
   where
-    go : (read : Walked Instruction) → readCode code ≡ read → RanFits (ranOf read clip out)
-    go (Walked.items is) e =
+    go : (read : AllRead Instruction) → readCode code ≡ read → RanFits (ranOf read clip out)
+    go (AllRead.items is) e =
         both-ways RanFits (badClip (length clip)) {x = Ran.Refused Refusal.BadClip} (omega arith)
         (both-ways RanFits (tooShort out clip) {x = Ran.Refused Refusal.ShortOutput} (omega arith) tt)
-    go (Walked.refused r) e = omega (arith, code-place code r small e)
+    go (AllRead.refused r) e = omega (arith, code-place code r small e)
 
 pub found-fits : (rule table witness : List ℕ) (r : Found) (table′ witness′ : List ℕ) → AllBytes rule → SearchSays (readRule rule) table witness r table′ witness′ → FoundFits r
 found-fits rule table witness r table′ witness′ small says = go r (said-small rule table witness r table′ witness′ small says)

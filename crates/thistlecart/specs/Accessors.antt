@@ -4,8 +4,8 @@ use mathlib.Core.Path.{_≡_}
 use mathlib.Core.Bool.{Bool, cond}
 use Prim.Native.Nat.{ℕ, _/_, _%_}
 use lib.Dec.{ltb, eqb}
-use Rattle.reading.specs.Refusals.{numberOf, placeOf}
-use Rattle.reading.specs.declared.refusal.Refusal.{Refusal}
+use Rattle.ground.specs.Refusals.{numberOf, placeOf}
+use Rattle.ground.specs.declared.refusal.Refusal.{Refusal}
 use Rattle.rules.specs.declared.load.Loaded.{Loaded}
 use Rattle.sequencer.specs.declared.run.Ran.{Ran}
 use Rattle.emitter.specs.declared.emit.Emitted.{Emitted}
@@ -15,69 +15,69 @@ use Rattle.makers.specs.declared.make.Made.{Made}
 use Rattle.thistlecart.specs.Words.{bit8, bit16, bit24, bit32, bit40}
 
 -- thistlecart_refusal: the number, 0 where there is none
-abbrev pub refusalIn : ℕ → ℕ
-refusalIn word = word % bit8
+abbrev pub refusalTold : ℕ → ℕ
+refusalTold word = word % bit8
 
 -- Whether a word is no refusal's
 abbrev pub answered : ℕ → Bool
-answered word = eqb (refusalIn word) 0
+answered word = eqb (refusalTold word) 0
 
 -- thistlecart_place
-abbrev pub placeIn : ℕ → ℕ
-placeIn word = cond (answered word) 0 (word / bit8 % bit32)
+abbrev pub placeTold : ℕ → ℕ
+placeTold word = cond (answered word) 0 (word / bit8 % bit32)
 
 -- thistlecart_which: 1 first, 2 second, 3 the new bytes
-abbrev pub whichIn : ℕ → ℕ
-whichIn word = cond (answered word) 0 (word / bit40)
+abbrev pub whichTold : ℕ → ℕ
+whichTold word = cond (answered word) 0 (word / bit40)
 
 -- thistlecart_items
-abbrev pub itemsIn : ℕ → ℕ
-itemsIn word = cond (answered word) (word / bit8 % bit16) 0
+abbrev pub itemsTold : ℕ → ℕ
+itemsTold word = cond (answered word) (word / bit8 % bit16) 0
 
 -- thistlecart_horizon
-abbrev pub horizonIn : ℕ → ℕ
-horizonIn word = cond (answered word) (word / bit24) 0
+abbrev pub horizonTold : ℕ → ℕ
+horizonTold word = cond (answered word) (word / bit24) 0
 
 -- thistlecart_met
-abbrev pub metIn : ℕ → ℕ
-metIn word = cond (answered word) (word / bit8 % 2) 0
+abbrev pub metTold : ℕ → ℕ
+metTold word = cond (answered word) (word / bit8 % 2) 0
 
 -- thistlecart_length: the word of a search has its states above bit 31, and no other word with a length has a bit there
-abbrev pub lengthIn : ℕ → ℕ
-lengthIn word = cond (answered word) (cond (ltb word bit32) (word / bit8) (word / bit16 % bit16)) 0
+abbrev pub lengthTold : ℕ → ℕ
+lengthTold word = cond (answered word) (cond (ltb word bit32) (word / bit8) (word / bit16 % bit16)) 0
 
 -- thistlecart_states
-abbrev pub statesIn : ℕ → ℕ
-statesIn word = cond (answered word) (word / bit32) 0
+abbrev pub statesTold : ℕ → ℕ
+statesTold word = cond (answered word) (word / bit32) 0
 
 -- A word tells a refusal
 abbrev pub TellsRefusal : Refusal → ℕ → Type 0
-TellsRefusal r word = (refusalIn word ≡ numberOf r) × (placeIn word ≡ placeOf r)
+TellsRefusal r word = (refusalTold word ≡ numberOf r) × (placeTold word ≡ placeOf r)
 
 -- A word tells what loading answers
 abbrev pub TellsLoaded : Loaded → ℕ → Type 0
-TellsLoaded (Loaded.Accepted items horizon) word = (refusalIn word ≡ 0) × (itemsIn word ≡ items) × (horizonIn word ≡ horizon)
+TellsLoaded (Loaded.Accepted items horizon) word = (refusalTold word ≡ 0) × (itemsTold word ≡ items) × (horizonTold word ≡ horizon)
 TellsLoaded (Loaded.Refused r) word = TellsRefusal r word
 
 -- A word tells what the search answers: met or not, the length, 0 if not, and the states
 abbrev pub TellsFound : Found → ℕ → Type 0
 TellsFound (Found.Met length states) word =
-    (refusalIn word ≡ 0) × (metIn word ≡ 1) × (lengthIn word ≡ length) × (statesIn word ≡ states)
+    (refusalTold word ≡ 0) × (metTold word ≡ 1) × (lengthTold word ≡ length) × (statesTold word ≡ states)
 TellsFound (Found.None states) word =
-    (refusalIn word ≡ 0) × (metIn word ≡ 0) × (lengthIn word ≡ 0) × (statesIn word ≡ states)
+    (refusalTold word ≡ 0) × (metTold word ≡ 0) × (lengthTold word ≡ 0) × (statesTold word ≡ states)
 TellsFound (Found.Refused r) word = TellsRefusal r word
 
 -- A word tells what emitting answers
 abbrev pub TellsEmitted : Emitted → ℕ → Type 0
-TellsEmitted (Emitted.Length length) word = (refusalIn word ≡ 0) × (lengthIn word ≡ length)
+TellsEmitted (Emitted.Length length) word = (refusalTold word ≡ 0) × (lengthTold word ≡ length)
 TellsEmitted (Emitted.Refused r) word = TellsRefusal r word
 
 -- A word tells what a run answers
 abbrev pub TellsRan : Ran → ℕ → Type 0
-TellsRan Ran.Done word = refusalIn word ≡ 0
+TellsRan Ran.Done word = refusalTold word ≡ 0
 TellsRan (Ran.Refused r) word = TellsRefusal r word
 
 -- A word tells what a maker answers
 abbrev pub TellsMade : Made → ℕ → Type 0
-TellsMade (Made.Length length) word = (refusalIn word ≡ 0) × (lengthIn word ≡ length)
-TellsMade (Made.Refused which r) word = TellsRefusal r word × (whichIn word ≡ whichOf which)
+TellsMade (Made.Length length) word = (refusalTold word ≡ 0) × (lengthTold word ≡ length)
+TellsMade (Made.Refused which r) word = TellsRefusal r word × (whichTold word ≡ whichOf which)

@@ -3,8 +3,8 @@
 -- of the three in bits 40 and up. Else a loaded rule's items in bits 8 to 23 and its horizon in bits 24 and up; of a search, met in bit 8, the length in bits 16 to 31 and the states in
 -- bits 32 and up; of emitted code or a made rule, the length in bits 8 and up.
 use Prim.Native.Nat.{ℕ, _+_, _*_}
-use Rattle.reading.specs.Refusals.{numberOf, placeOf}
-use Rattle.reading.specs.declared.refusal.Refusal.{Refusal}
+use Rattle.ground.specs.Refusals.{numberOf, placeOf}
+use Rattle.ground.specs.declared.refusal.Refusal.{Refusal}
 use Rattle.rules.specs.declared.load.Loaded.{Loaded}
 use Rattle.sequencer.specs.declared.run.Ran.{Ran}
 use Rattle.emitter.specs.declared.emit.Emitted.{Emitted}

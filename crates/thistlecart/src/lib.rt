@@ -3,21 +3,21 @@
 ghost use mathlib.Core.Path.{_≡_};
 ghost use Rattle.makers.specs.Making.{negation, nextFrame, conjunction, disjunction};
 ghost use Rattle.thistlecart.specs.Words.{refusalWord, loadWord, foundWord, emittedWord, ranWord, madeWord};
-ghost use Rattle.thistlecart.specs.Fits.{PlaceFits, LoadedFits, FoundFits, EmittedFits, RanFits, MadeFits};
-ghost use Rattle.thistlecart.specs.Entries.{Loads, Searches, Emits, Runs, MakesOfOne, MakesOfTwo};
+ghost use Rattle.thistlecart.specs.Inner.Fits.{PlaceFits, LoadedFits, FoundFits, EmittedFits, RanFits, MadeFits};
+ghost use Rattle.thistlecart.specs.Entries.{LoadEntry, SearchEntry, EmitEntry, RunEntry, OneRuleEntry, TwoRulesEntry};
 use emitter::emit::Emitted;
 use emitter::emit::emit;
 use finder::search::Found;
 use finder::search::search;
+use ground::refusal::Refusal;
+use ground::refusal::number;
+use ground::refusal::place;
 use makers::make::Made;
 use makers::make::both;
 use makers::make::either;
 use makers::make::negate;
 use makers::make::next;
 use makers::make::which_number;
-use reading::refusal::Refusal;
-use reading::refusal::number;
-use reading::refusal::place;
 use rules::load::Loaded;
 use rules::load::load;
 use sequencer::run::Ran;
@@ -102,7 +102,7 @@ fn made_word(made: Made) -> u64
 // Loads a rule. The word has its items in bits 8 to 23 and its horizon in bits 24 and up.
 #[no_mangle]
 pub extern "C" fn thistlecart_load(rule: &[u8]) -> u64
-    ensures { λ r. ⌜ Loads (now (rule .entry)) r ⌝ }
+    ensures { λ r. ⌜ LoadEntry (now (rule .entry)) r ⌝ }
 {
     load_word(load(rule))
 }
@@ -110,7 +110,7 @@ pub extern "C" fn thistlecart_load(rule: &[u8]) -> u64
 // Searches for a clip that satisfies a rule. The word has met in bit 8, the length in bits 16 to 31 and the states in bits 32 and up.
 #[no_mangle]
 pub extern "C" fn thistlecart_search(rule: &[u8], table: &mut [u8], witness: &mut [u8]) -> u64
-    ensures { λ r. ⌜ Searches (now (rule .entry)) (now (table .entry)) (now (witness .entry)) r (now (table .exit)) (now (witness .exit)) ⌝ }
+    ensures { λ r. ⌜ SearchEntry (now (rule .entry)) (now (table .entry)) (now (witness .entry)) r (now (table .exit)) (now (witness .exit)) ⌝ }
 {
     found_word(search(rule, table, witness))
 }
@@ -118,7 +118,7 @@ pub extern "C" fn thistlecart_search(rule: &[u8], table: &mut [u8], witness: &mu
 // Emits the code of a rule. The word has its length in bits 8 and up.
 #[no_mangle]
 pub extern "C" fn thistlecart_emit(rule: &[u8], out: &mut [u8]) -> u64
-    ensures { λ r. ⌜ Emits (now (rule .entry)) (now (out .entry)) r (now (out .exit)) ⌝ }
+    ensures { λ r. ⌜ EmitEntry (now (rule .entry)) (now (out .entry)) r (now (out .exit)) ⌝ }
 {
     emitted_word(emit(rule, out))
 }
@@ -126,7 +126,7 @@ pub extern "C" fn thistlecart_emit(rule: &[u8], out: &mut [u8]) -> u64
 // Runs code over a clip and writes a byte for each frame. The word is 0.
 #[no_mangle]
 pub extern "C" fn thistlecart_run(code: &[u8], clip: &[u8], out: &mut [u8]) -> u64
-    ensures { λ r. ⌜ Runs (now (code .entry)) (now (clip .entry)) (now (out .entry)) r (now (out .exit)) ⌝ }
+    ensures { λ r. ⌜ RunEntry (now (code .entry)) (now (clip .entry)) (now (out .entry)) r (now (out .exit)) ⌝ }
 {
     ran_word(run(code, clip, out))
 }
@@ -134,7 +134,7 @@ pub extern "C" fn thistlecart_run(code: &[u8], clip: &[u8], out: &mut [u8]) -> u
 // Makes the negation of a rule. The word has the new rule's length in bits 8 and up.
 #[no_mangle]
 pub extern "C" fn thistlecart_negate(rule: &[u8], out: &mut [u8]) -> u64
-    ensures { λ r. ⌜ MakesOfOne negation (now (rule .entry)) (now (out .entry)) r (now (out .exit)) ⌝ }
+    ensures { λ r. ⌜ OneRuleEntry negation (now (rule .entry)) (now (out .entry)) r (now (out .exit)) ⌝ }
 {
     made_word(negate(rule, out))
 }
@@ -142,7 +142,7 @@ pub extern "C" fn thistlecart_negate(rule: &[u8], out: &mut [u8]) -> u64
 // Makes the rule that a rule holds from the next frame on. The word has the new rule's length in bits 8 and up.
 #[no_mangle]
 pub extern "C" fn thistlecart_next(rule: &[u8], out: &mut [u8]) -> u64
-    ensures { λ r. ⌜ MakesOfOne nextFrame (now (rule .entry)) (now (out .entry)) r (now (out .exit)) ⌝ }
+    ensures { λ r. ⌜ OneRuleEntry nextFrame (now (rule .entry)) (now (out .entry)) r (now (out .exit)) ⌝ }
 {
     made_word(next(rule, out))
 }
@@ -150,7 +150,7 @@ pub extern "C" fn thistlecart_next(rule: &[u8], out: &mut [u8]) -> u64
 // Makes the rule that both of two hold. The word has the new rule's length in bits 8 and up.
 #[no_mangle]
 pub extern "C" fn thistlecart_both(first: &[u8], second: &[u8], out: &mut [u8]) -> u64
-    ensures { λ r. ⌜ MakesOfTwo conjunction (now (first .entry)) (now (second .entry)) (now (out .entry)) r (now (out .exit)) ⌝ }
+    ensures { λ r. ⌜ TwoRulesEntry conjunction (now (first .entry)) (now (second .entry)) (now (out .entry)) r (now (out .exit)) ⌝ }
 {
     made_word(both(first, second, out))
 }
@@ -158,7 +158,7 @@ pub extern "C" fn thistlecart_both(first: &[u8], second: &[u8], out: &mut [u8]) 
 // Makes the rule that one of two holds. The word has the new rule's length in bits 8 and up.
 #[no_mangle]
 pub extern "C" fn thistlecart_either(first: &[u8], second: &[u8], out: &mut [u8]) -> u64
-    ensures { λ r. ⌜ MakesOfTwo disjunction (now (first .entry)) (now (second .entry)) (now (out .entry)) r (now (out .exit)) ⌝ }
+    ensures { λ r. ⌜ TwoRulesEntry disjunction (now (first .entry)) (now (second .entry)) (now (out .entry)) r (now (out .exit)) ⌝ }
 {
     made_word(either(first, second, out))
 }

@@ -1,7 +1,7 @@
 -- `emitted_word` meets its contract: the match is the definition's, and what fits doesn't overflow.
 use mathlib.Core.Path.{subst}
 use native.Mathlib.Omega.{arith}
-use Rattle.thistlecart.specs.Fits.{EmittedFits}
+use Rattle.thistlecart.specs.Inner.Fits.{EmittedFits}
 use borrow.Author.Needs.{needs}
 use Rattle.thistlecart.proofs.emitted_word.Statement.{statement}
 use Rattle.thistlecart.proofs.emitted_word.Tie as tie

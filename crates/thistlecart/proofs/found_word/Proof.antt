@@ -1,7 +1,7 @@
 -- `found_word` meets its contract: the match is the definition's, and what fits doesn't overflow.
 use mathlib.Core.Path.{subst}
 use native.Mathlib.Omega.{arith}
-use Rattle.thistlecart.specs.Fits.{FoundFits}
+use Rattle.thistlecart.specs.Inner.Fits.{FoundFits}
 use Rattle.finder.specs.declared.search.Found.{Found}
 use borrow.Author.Needs.{needs}
 use Rattle.thistlecart.proofs.found_word.Statement.{statement}

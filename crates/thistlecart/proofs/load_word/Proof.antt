@@ -1,7 +1,7 @@
 -- `load_word` meets its contract: the match is the definition's, and what fits doesn't overflow.
 use mathlib.Core.Path.{subst}
 use native.Mathlib.Omega.{arith}
-use Rattle.thistlecart.specs.Fits.{LoadedFits}
+use Rattle.thistlecart.specs.Inner.Fits.{LoadedFits}
 use Rattle.rules.specs.declared.load.Loaded.{Loaded}
 use borrow.Author.Needs.{needs}
 use Rattle.thistlecart.proofs.load_word.Statement.{statement}

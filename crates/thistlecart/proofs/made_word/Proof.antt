@@ -1,7 +1,7 @@
 -- `made_word` meets its contract: the match is the definition's, and what fits doesn't overflow.
 use mathlib.Core.Path.{subst}
 use native.Mathlib.Omega.{arith}
-use Rattle.thistlecart.specs.Fits.{MadeFits}
+use Rattle.thistlecart.specs.Inner.Fits.{MadeFits}
 use Rattle.thistlecart.proofs.Fits.{refused-small}
 use borrow.Author.Needs.{needs}
 use Rattle.thistlecart.proofs.made_word.Statement.{statement}

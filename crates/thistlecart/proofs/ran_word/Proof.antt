@@ -1,6 +1,6 @@
 -- `ran_word` meets its contract: the match is the definition's.
 use mathlib.Core.Path.{subst}
-use Rattle.thistlecart.specs.Fits.{RanFits}
+use Rattle.thistlecart.specs.Inner.Fits.{RanFits}
 use borrow.Author.Needs.{needs}
 use Rattle.thistlecart.proofs.ran_word.Statement.{statement}
 use Rattle.thistlecart.proofs.ran_word.Tie as tie

@@ -4,7 +4,7 @@ use native.Mathlib.Omega.{arith}
 use Rattle.makers.specs.Making.{conjunction}
 use Rattle.makers.proofs.Making.{conjunction-bytes}
 use Rattle.thistlecart.proofs.Fits.{two-fits}
-use Rattle.thistlecart.specs.Fits.{MadeFits}
+use Rattle.thistlecart.specs.Inner.Fits.{MadeFits}
 use borrow.Author.Needs.{needs}
 use Rattle.thistlecart.proofs.thistlecart_both.Statement.{statement}
 use Rattle.thistlecart.proofs.thistlecart_both.Tie as tie

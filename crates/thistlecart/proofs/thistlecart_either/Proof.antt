@@ -4,7 +4,7 @@ use native.Mathlib.Omega.{arith}
 use Rattle.makers.specs.Making.{disjunction}
 use Rattle.makers.proofs.Making.{disjunction-bytes}
 use Rattle.thistlecart.proofs.Fits.{two-fits}
-use Rattle.thistlecart.specs.Fits.{MadeFits}
+use Rattle.thistlecart.specs.Inner.Fits.{MadeFits}
 use borrow.Author.Needs.{needs}
 use Rattle.thistlecart.proofs.thistlecart_either.Statement.{statement}
 use Rattle.thistlecart.proofs.thistlecart_either.Tie as tie

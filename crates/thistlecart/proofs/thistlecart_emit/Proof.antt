@@ -2,7 +2,7 @@
 use mathlib.Core.Path.{subst, sym}
 use native.Mathlib.Omega.{arith}
 use Rattle.thistlecart.proofs.Fits.{emitted-fits}
-use Rattle.thistlecart.specs.Fits.{EmittedFits}
+use Rattle.thistlecart.specs.Inner.Fits.{EmittedFits}
 use borrow.Author.Needs.{needs}
 use Rattle.thistlecart.proofs.thistlecart_emit.Statement.{statement}
 use Rattle.thistlecart.proofs.thistlecart_emit.Tie as tie

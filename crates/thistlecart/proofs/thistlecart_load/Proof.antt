@@ -2,7 +2,7 @@
 use mathlib.Core.Path.{subst, sym}
 use native.Mathlib.Omega.{arith}
 use Rattle.thistlecart.proofs.Fits.{loaded-fits}
-use Rattle.thistlecart.specs.Fits.{LoadedFits}
+use Rattle.thistlecart.specs.Inner.Fits.{LoadedFits}
 use borrow.Author.Needs.{needs}
 use Rattle.thistlecart.proofs.thistlecart_load.Statement.{statement}
 use Rattle.thistlecart.proofs.thistlecart_load.Tie as tie

@@ -4,7 +4,7 @@ use native.Mathlib.Omega.{arith}
 use Rattle.makers.specs.Making.{nextFrame}
 use Rattle.makers.proofs.Making.{next-bytes}
 use Rattle.thistlecart.proofs.Fits.{one-fits}
-use Rattle.thistlecart.specs.Fits.{MadeFits}
+use Rattle.thistlecart.specs.Inner.Fits.{MadeFits}
 use borrow.Author.Needs.{needs}
 use Rattle.thistlecart.proofs.thistlecart_next.Statement.{statement}
 use Rattle.thistlecart.proofs.thistlecart_next.Tie as tie

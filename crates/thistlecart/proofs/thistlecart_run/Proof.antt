@@ -2,7 +2,7 @@
 use mathlib.Core.Path.{subst, sym}
 use native.Mathlib.Omega.{arith}
 use Rattle.thistlecart.proofs.Fits.{ran-fits}
-use Rattle.thistlecart.specs.Fits.{RanFits}
+use Rattle.thistlecart.specs.Inner.Fits.{RanFits}
 use borrow.Author.Needs.{needs}
 use Rattle.thistlecart.proofs.thistlecart_run.Statement.{statement}
 use Rattle.thistlecart.proofs.thistlecart_run.Tie as tie

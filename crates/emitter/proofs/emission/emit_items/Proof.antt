@@ -1,15 +1,16 @@
--- `emit_items` meets its contract. The loop's invariant is `Stands`: the buffer holds the code of the items so far. The measure is how many items are to come.
+-- `emit_items` meets its contract. The loop's invariant is `EmittedTo`: the buffer holds the code of the items so far. The measure is how many items are to come.
 use mathlib.Core.Path.{refl}
 use Prim.Native.Nat.{_-_, _≤_}
 use native.Mathlib.Omega.{arith}
 use borrow.Author.Needs.{needs}
-use Rattle.emitter.specs.Emission.{itemIn, Emits}
-use Rattle.emitter.proofs.InOrder.{Stands, stands-first, stands-next, stands-more, stands-length, stands-all}
+use Rattle.rules.specs.Loaded.{itemIn}
+use Rattle.emitter.specs.Inner.Emission.{CanEmit}
+use Rattle.emitter.proofs.InOrder.{EmittedTo, stands-first, stands-next, stands-more, stands-length, stands-all}
 use Rattle.emitter.proofs.emission.emit_items.Statement.{statement}
 use Rattle.emitter.proofs.emission.emit_items.Tie as tie
 
 abbrev Inv-loop : tie.InvT-loop
-Inv-loop items out₀ rule emission₀ k₀ out emission k = Emits rule items out₀ × Stands rule out₀ k out emission × (k ≤ items)
+Inv-loop items out₀ rule emission₀ k₀ out emission k = CanEmit rule items out₀ × EmittedTo rule out₀ k out emission × (k ≤ items)
 
 abbrev μ-loop : tie.MeasureT-loop
 μ-loop items out₀ rule emission₀ k₀ out emission k = items - k

@@ -1,12 +1,12 @@
 -- `emit` meets its contract: the rule is loaded, and what is emitted of it is what the definition says.
 use native.Mathlib.Omega.{arith}
-use Rattle.emitter.specs.Emitting.{Loads}
+use Rattle.rules.specs.Loaded.{LoadedFrom}
 use borrow.Author.Needs.{needs}
 use Rattle.emitter.proofs.emit.emit.Statement.{statement}
 use Rattle.emitter.proofs.emit.emit.Tie as tie
 
 -- the rule is loaded from its bytes
-loads : (c : tie.After-decode) → Loads (c .before .before .before .args .rule .now) (c .decode .result)
+loads : (c : tie.After-decode) → LoadedFrom (c .before .before .before .args .rule .now) (c .decode .result)
 loads c = record { small = λ i. omega (arith, c .before .before .shared-slice-known .given i); own = c .decode .ensures }
 
 decode-requires : tie.Need-decode-requires

@@ -2,14 +2,15 @@
 use mathlib.Core.List.{List}
 use mathlib.Core.Path.{refl, sym}
 use Prim.Native.Nat.{ℕ}
-use Rattle.emitter.specs.Emitting.{Loads}
-use Rattle.emitter.proofs.Emitting.{Accepts, accepts, emits, part-inside, part-length, part-fits, answer-short, answer-length, answer-bytes, answer-refused}
+use Rattle.rules.specs.Loaded.{LoadedFrom}
+use Rattle.rules.proofs.Loaded.{Accepts, accepts}
+use Rattle.emitter.proofs.Answered.{emits, part-inside, part-length, part-fits, answer-short, answer-length, answer-bytes, answer-refused}
 use borrow.Author.Needs.{needs}
 use Rattle.emitter.proofs.emit.emit_rule.Statement.{statement}
 use Rattle.emitter.proofs.emit.emit_rule.Tie as tie
 
 -- the rule is accepted, whatever bytes it was loaded from
-is-accepted : (c : tie.After-loaded) (bytes : List ℕ) → Loads bytes (c .before .before .before .args .rule) → Accepts bytes (c .before .before .before .args .rule) (c .loaded .given .0 .0)
+is-accepted : (c : tie.After-loaded) (bytes : List ℕ) → LoadedFrom bytes (c .before .before .before .args .rule) → Accepts bytes (c .before .before .before .args .rule) (c .loaded .given .0 .0)
 is-accepted c bytes loads = accepts _ _ _ _ (loads .small) (loads .own) (sym (c .loaded .given .1))
 
 -- it was loaded from some

@@ -1,7 +1,7 @@
 -- `emit_eventually` meets its contract: ONE, and then REACH and LATER by its number.
 use native.Mathlib.Omega.{arith}
 use mathlib.Core.Path.{refl}
-use Rattle.emitter.proofs.Writing.{one-room, eventually-room, eventually-wrote}
+use Rattle.emitter.proofs.Behind.{one-room, eventually-room, eventually-wrote}
 use borrow.Author.Needs.{needs}
 use Rattle.emitter.proofs.item.emit_eventually.Statement.{statement}
 use Rattle.emitter.proofs.item.emit_eventually.Tie as tie

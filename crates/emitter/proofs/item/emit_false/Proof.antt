@@ -1,9 +1,9 @@
 -- `emit_false` meets its contract: its first instruction, and N of that.
 use native.Mathlib.Omega.{arith}
 use mathlib.Core.List.{[], _∷_}
-use Rattle.sequencer.specs.Code.{One}
+use Rattle.code.specs.Code.{One}
 use Rattle.emitter.specs.Translation.{itemCode}
-use Rattle.emitter.proofs.Writing.{room-first, not-room, not-wrote}
+use Rattle.emitter.proofs.Behind.{room-first, not-room, not-wrote}
 use borrow.Author.Needs.{needs}
 use Rattle.emitter.proofs.item.emit_false.Statement.{statement}
 use Rattle.emitter.proofs.item.emit_false.Tie as tie

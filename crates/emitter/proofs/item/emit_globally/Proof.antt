@@ -1,7 +1,7 @@
 -- `emit_globally` meets its contract: ONE, N, and a timed item's instructions by their numbers, inverted.
-use Rattle.sequencer.specs.Code.{One}
+use Rattle.code.specs.Code.{One}
 use Rattle.emitter.specs.Translation.{N, itemCode}
-use Rattle.emitter.proofs.Writing.{then-not-timed, first-room, second-room, third-room, third-wrote}
+use Rattle.emitter.proofs.Behind.{then-not-timed, first-room, second-room, third-room, third-wrote}
 use borrow.Author.Needs.{needs}
 use Rattle.emitter.proofs.item.emit_globally.Statement.{statement}
 use Rattle.emitter.proofs.item.emit_globally.Tie as tie

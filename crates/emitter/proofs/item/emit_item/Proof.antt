@@ -1,7 +1,7 @@
 -- `emit_item` meets its contract: in each arm the item is known, and its instructions are written.
 use Rattle.rules.specs.declared.item.Item.{Item}
 use Rattle.emitter.specs.Translation.{itemCode}
-use Rattle.emitter.proofs.Writing.{item-ready, item-wrote}
+use Rattle.emitter.proofs.Behind.{item-ready, item-wrote}
 use borrow.Author.Needs.{needs}
 use Rattle.emitter.proofs.item.emit_item.Statement.{statement}
 use Rattle.emitter.proofs.item.emit_item.Tie as tie

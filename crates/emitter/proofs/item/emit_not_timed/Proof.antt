@@ -1,5 +1,5 @@
 -- `emit_not_timed` meets its contract: a timed item's REACH and LATER, and N of what they leave.
-use Rattle.emitter.proofs.Writing.{room-first, not-room, not-wrote, timed-some}
+use Rattle.emitter.proofs.Behind.{room-first, not-room, not-wrote, timed-some}
 use borrow.Author.Needs.{needs}
 use Rattle.emitter.proofs.item.emit_not_timed.Statement.{statement}
 use Rattle.emitter.proofs.item.emit_not_timed.Tie as tie

@@ -1,6 +1,6 @@
 -- `emit_or` meets its contract: two Ns, and NAND of the two.
 use Rattle.emitter.specs.Translation.{N, itemCode}
-use Rattle.emitter.proofs.Writing.{then-nand, first-room, second-room, third-room, third-wrote}
+use Rattle.emitter.proofs.Behind.{then-nand, first-room, second-room, third-room, third-wrote}
 use borrow.Author.Needs.{needs}
 use Rattle.emitter.proofs.item.emit_or.Statement.{statement}
 use Rattle.emitter.proofs.item.emit_or.Tie as tie

@@ -1,6 +1,6 @@
 -- `emit_release` meets its contract: two Ns, and a timed item's instructions by their numbers, inverted.
 use Rattle.emitter.specs.Translation.{N, itemCode}
-use Rattle.emitter.proofs.Writing.{then-not-timed, first-room, second-room, third-room, third-wrote}
+use Rattle.emitter.proofs.Behind.{then-not-timed, first-room, second-room, third-room, third-wrote}
 use borrow.Author.Needs.{needs}
 use Rattle.emitter.proofs.item.emit_release.Statement.{statement}
 use Rattle.emitter.proofs.item.emit_release.Tie as tie

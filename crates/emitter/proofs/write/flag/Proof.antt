@@ -1,7 +1,7 @@
 -- `flag` meets its contract: its numbers are written one behind the other.
 use mathlib.Core.Path.{refl}
-use Rattle.sequencer.specs.Code.{Flag}
-use Rattle.emitter.proofs.Writing.{wrote}
+use Rattle.code.specs.Code.{Flag}
+use Rattle.emitter.proofs.Behind.{wrote}
 use borrow.Author.Needs.{needs}
 use Rattle.emitter.proofs.write.flag.Statement.{statement}
 use Rattle.emitter.proofs.write.flag.Tie as tie

@@ -1,7 +1,7 @@
 -- `later` meets its contract: its numbers are written one behind the other.
 use mathlib.Core.Path.{refl}
-use Rattle.sequencer.specs.Code.{Later}
-use Rattle.emitter.proofs.Writing.{wrote}
+use Rattle.code.specs.Code.{Later}
+use Rattle.emitter.proofs.Behind.{wrote}
 use borrow.Author.Needs.{needs}
 use Rattle.emitter.proofs.write.later.Statement.{statement}
 use Rattle.emitter.proofs.write.later.Tie as tie

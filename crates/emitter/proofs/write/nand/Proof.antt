@@ -1,7 +1,7 @@
 -- `nand` meets its contract: its numbers are written one behind the other.
 use mathlib.Core.Path.{refl}
-use Rattle.sequencer.specs.Code.{Nand}
-use Rattle.emitter.proofs.Writing.{wrote}
+use Rattle.code.specs.Code.{Nand}
+use Rattle.emitter.proofs.Behind.{wrote}
 use borrow.Author.Needs.{needs}
 use Rattle.emitter.proofs.write.nand.Statement.{statement}
 use Rattle.emitter.proofs.write.nand.Tie as tie

@@ -1,7 +1,7 @@
 -- `reach` meets its contract: its numbers are written one behind the other.
 use mathlib.Core.Path.{refl}
-use Rattle.sequencer.specs.Code.{Reach}
-use Rattle.emitter.proofs.Writing.{wrote}
+use Rattle.code.specs.Code.{Reach}
+use Rattle.emitter.proofs.Behind.{wrote}
 use borrow.Author.Needs.{needs}
 use Rattle.emitter.proofs.write.reach.Statement.{statement}
 use Rattle.emitter.proofs.write.reach.Tie as tie

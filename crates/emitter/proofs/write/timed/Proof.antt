@@ -1,6 +1,6 @@
 -- `timed` meets its contract: REACH, and LATER behind it where a is not 0.
 use native.Mathlib.Omega.{arith}
-use Rattle.emitter.proofs.Writing.{reach-room, reach-wrote, later-room, later-wrote}
+use Rattle.emitter.proofs.Behind.{reach-room, reach-wrote, later-room, later-wrote}
 use borrow.Author.Needs.{needs}
 use Rattle.emitter.proofs.write.timed.Statement.{statement}
 use Rattle.emitter.proofs.write.timed.Tie as tie

@@ -3,12 +3,12 @@ use mathlib.Core.Path.{_≡_, refl, subst, _∙_}
 use Prim.Native.Nat.{_-_}
 use native.Mathlib.Omega.{arith}
 use lib.ListN.{length}
-use Rattle.sequencer.specs.Programs.{codeIn}
+use Rattle.code.specs.Programs.{codeIn}
 use Rattle.paths.proofs.Ends.{no-record}
-use Rattle.finder.specs.Exploring.{Exploring, Tries, TriedTo}
+use Rattle.finder.specs.Inner.Explore.{Exploring, Tries, TriedTo}
 use Rattle.finder.proofs.Naming.{passes-over}
 use borrow.Author.Needs.{needs}
-use Rattle.finder.proofs.Exploring.{to-begin, to-next-length, to-none, to-no-room}
+use Rattle.finder.proofs.Turns.{to-begin, to-next-length, to-none, to-no-room}
 use Rattle.finder.proofs.explore.explore.Statement.{statement}
 use Rattle.finder.proofs.explore.explore.Tie as tie
 

@@ -2,10 +2,10 @@
 use mathlib.Core.Path.{subst}
 use Prim.Native.Nat.{_+_, _≤_}
 use native.Mathlib.Omega.{arith}
-use Rattle.reading.specs.Limits.{limits}
-use Rattle.finder.specs.Tables.{Looks}
-use Rattle.finder.specs.declared.table.Look.{Look}
-use Rattle.finder.proofs.Exploring.{filled, can-store, state-most, keeping-known, keeping-full, keeping-new}
+use Rattle.ground.specs.Limits.{limits}
+use Rattle.table.specs.Inner.Tables.{Looks}
+use Rattle.table.specs.declared.Look.{Look}
+use Rattle.finder.proofs.Turns.{filled, can-store, state-most, keeping-known, keeping-full, keeping-new}
 use borrow.Author.Needs.{needs}
 use Rattle.finder.proofs.explore.keep.Statement.{statement}
 use Rattle.finder.proofs.explore.keep.Tie as tie

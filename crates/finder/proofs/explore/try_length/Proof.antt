@@ -5,10 +5,10 @@ use mathlib.Core.Logic.{inl, inr}
 use Prim.Native.Nat.{_-_, _<_}
 use native.Mathlib.Omega.{arith}
 use lib.ListN.{length}
-use Rattle.paths.specs.Searching.{frameBytes}
-use Rattle.finder.proofs.Exploring.{state-fits}
-use Rattle.finder.proofs.Tables.{record-length}
-use Rattle.finder.proofs.Trying.{BeforeState, BeforeByte, states-first, bytes-first, misses, bytes-passed, bytes-more, bytes-met, states-more, states-all}
+use Rattle.paths.specs.Inner.Searching.{frameBytes}
+use Rattle.finder.proofs.Turns.{state-fits}
+use Rattle.table.proofs.Tables.{record-length}
+use Rattle.finder.proofs.Trials.{BeforeState, BeforeByte, states-first, bytes-first, misses, bytes-passed, bytes-more, bytes-met, states-more, states-all}
 use Rattle.finder.proofs.explore.try_length.Statement.{statement}
 use Rattle.finder.proofs.explore.try_length.Tie as tie
 

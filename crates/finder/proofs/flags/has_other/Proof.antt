@@ -2,7 +2,7 @@
 use mathlib.Core.Bool.{false≢true}
 use Prim.Native.Nat.{_-_, _≤_}
 use native.Mathlib.Omega.{arith}
-use Rattle.finder.specs.Flags.{flags}
+use Rattle.finder.specs.Inner.Flags.{flags}
 use Rattle.finder.proofs.Naming.{other-here}
 use Rattle.finder.proofs.flags.has_other.Statement.{statement}
 use Rattle.finder.proofs.flags.has_other.Tie as tie

@@ -2,8 +2,8 @@
 use mathlib.Core.Path.{refl}
 use Prim.Native.Nat.{_-_}
 use native.Mathlib.Omega.{arith}
-use Rattle.paths.specs.Searching.{frameBytes}
-use Rattle.finder.specs.Flags.{Passed}
+use Rattle.paths.specs.Inner.Searching.{frameBytes}
+use Rattle.finder.specs.Inner.Flags.{Passed}
 use Rattle.finder.proofs.Naming.{passed-first, passed-more}
 use Rattle.finder.proofs.flags.passed_over.Statement.{statement}
 use Rattle.finder.proofs.flags.passed_over.Tie as tie

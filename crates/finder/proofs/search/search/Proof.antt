@@ -1,10 +1,10 @@
 -- `search` meets its contract: the rule's refusal, 14, or what the search for the rule answers.
 use mathlib.Core.Path.{_≡_}
 use native.Mathlib.Omega.{arith}
-use Rattle.reading.specs.Buffers.{AllBytes}
+use Rattle.ground.specs.Buffers.{AllBytes}
 use Rattle.rules.specs.Loading.{readRule, loadedOf}
-use Rattle.emitter.specs.Emitting.{Loads}
-use Rattle.finder.proofs.Finding.{rule-loaded, horizon-near, searchable, says-refused, says-short, says-answers}
+use Rattle.rules.specs.Loaded.{LoadedFrom}
+use Rattle.finder.proofs.Answered.{rule-loaded, horizon-near, searchable, says-refused, says-short, says-answers}
 use borrow.Author.Needs.{needs}
 use Rattle.finder.proofs.search.search.Statement.{statement}
 use Rattle.finder.proofs.search.search.Tie as tie
@@ -17,7 +17,7 @@ small c i = omega (arith, c .shared-slice-known .given i)
 answered : (c : tie.After-decode) → c .decode .result .loaded ≡ loadedOf (readRule (c .before .before .before .before .args .rule .now))
 answered c = rule-loaded _ _ (c .decode .ensures)
 
-loads : (c : tie.After-decode) → Loads (c .before .before .before .before .args .rule .now) (c .decode .result)
+loads : (c : tie.After-decode) → LoadedFrom (c .before .before .before .before .args .rule .now) (c .decode .result)
 loads c = record { small = small (c .before .before .before); own = c .decode .ensures }
 
 decode-requires : tie.Need-decode-requires

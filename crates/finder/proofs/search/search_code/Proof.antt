@@ -1,6 +1,6 @@
 -- `search_code` meets its contract: the table is made an empty index, what exploring ends with is told, and the table is cleared behind it.
 use mathlib.Core.Path.{_∙_}
-use Rattle.finder.proofs.Finding.{cleared-size, can-explore, can-tell, answers-end}
+use Rattle.finder.proofs.Answered.{cleared-size, can-explore, can-tell, answers-end}
 use borrow.Author.Needs.{needs}
 use Rattle.finder.proofs.search.search_code.Statement.{statement}
 use Rattle.finder.proofs.search.search_code.Tie as tie

@@ -6,11 +6,11 @@ use native.Mathlib.Omega.{arith}
 use lib.ListN.{length-take}
 use Rattle.rules.specs.Formula.{Formula}
 use Rattle.rules.specs.Loading.{Items, accepted, readRule}
-use Rattle.sequencer.specs.Programs.{Sound, codeIn}
+use Rattle.code.specs.Programs.{Sound, codeIn}
 use Rattle.emitter.specs.Translation.{codeFor}
-use Rattle.emitter.proofs.Emitting.{length-fits}
-use Rattle.finder.specs.Searches.{Searchable}
-use Rattle.finder.proofs.Finding.{not-emit-refused, not-load-refused, rule-ready, can-search, rule-answers}
+use Rattle.emitter.proofs.Answered.{length-fits}
+use Rattle.finder.specs.Inner.Search.{Searchable}
+use Rattle.finder.proofs.Answered.{not-emit-refused, not-load-refused, rule-ready, can-search, rule-answers}
 use borrow.Author.Needs.{needs}
 use Rattle.finder.proofs.search.search_rule.Statement.{statement}
 use Rattle.finder.proofs.search.search_rule.Tie as tie

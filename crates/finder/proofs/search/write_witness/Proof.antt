@@ -2,8 +2,8 @@
 use mathlib.Core.Path.{_≡_, refl, ap, _∙_}
 use native.Mathlib.Omega.{arith}
 use lib.ListN as list
-use Rattle.finder.specs.Records.{linkIn, frameIn}
-use Rattle.finder.proofs.Tables.{record-length}
+use Rattle.table.specs.Inner.Records.{linkIn, frameIn}
+use Rattle.table.proofs.Tables.{record-length}
 use Rattle.finder.proofs.Witness.{Walks, walks-first, walks-room, walks-less, walks-inside, walks-more, walks-all}
 use Rattle.finder.proofs.search.write_witness.Statement.{statement}
 use Rattle.finder.proofs.search.write_witness.Tie as tie

@@ -1,13 +1,13 @@
--- `read_numbers` meets its contract. The loop's invariant is `Reading`, and each way on is one of its laws. The measure is how many numbers are left.
+-- `read_numbers` meets its contract. The loop's invariant is `ReadingNumbers`, and each way on is one of its laws. The measure is how many numbers are left.
 use borrow.Author.Needs.{needs}
 use Prim.Native.Nat.{_-_}
 use mathlib.Core.Path.{sym, _∙_}
-use Rattle.reading.proofs.Items.{Reading, start, more, cut, long, whole}
+use Rattle.reading.proofs.Items.{ReadingNumbers, start, more, cut, long, whole}
 use Rattle.reading.proofs.item.read_numbers.Statement.{statement}
 use Rattle.reading.proofs.item.read_numbers.Tie as tie
 
 abbrev Inv-loop : tie.InvT-loop
-Inv-loop bytes at code count numbers₀ next₀ k₀ numbers next k = Reading bytes at code count numbers next k
+Inv-loop bytes at code count numbers₀ next₀ k₀ numbers next k = ReadingNumbers bytes at code count numbers next k
 
 abbrev μ-loop : tie.MeasureT-loop
 μ-loop bytes at code count numbers₀ next₀ k₀ numbers next k = count - k

@@ -4,7 +4,7 @@ use native.Mathlib.Omega.{arith}
 use native.Mathlib.Numerals.{add-one}
 use lib.ListN.{length-set}
 use Rattle.reading.proofs.Numbers.{bytes-one, bytes-two, bytes-none}
-use Rattle.reading.proofs.Written.{fitting, unfitting, nothing}
+use Rattle.ground.proofs.Written.{fitting, unfitting, nothing}
 use Rattle.reading.proofs.number.write_number.Statement.{statement}
 use Rattle.reading.proofs.number.write_number.Tie as tie
 

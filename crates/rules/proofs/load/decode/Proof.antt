@@ -1,8 +1,8 @@
--- `decode` meets its contract. The loop's invariant is `Turn`, and each way out of a turn is one of its laws. The measure is how many bytes are left.
+-- `decode` meets its contract. The loop's invariant is `RuleTurn`, and each way out of a turn is one of its laws. The measure is how many bytes are left.
 use borrow.Author.Needs.{needs}
 use native.Mathlib.Omega.{arith}
 use Prim.Native.Nat.{_-_, _<_}
-use Rattle.reading.specs.Buffers.{AllBytes}
+use Rattle.ground.specs.Buffers.{AllBytes}
 use Rattle.reading.specs.Items.{itemAt}
 use Rattle.reading.specs.declared.item.Read.{Read}
 use Rattle.reading.specs.declared.item.Table.{Table}
@@ -10,12 +10,12 @@ use lib.ListN.{length}
 use mathlib.Core.Path.{_≡_, sym, ap, _∙_}
 use Rattle.reading.proofs.InTurn.{forward, item-inside}
 use Rattle.rules.specs.Loading.{ruleOf}
-use Rattle.rules.proofs.Turns.{Turn, empty-rule, turn-first, turn-end, turn-refused, turn-judged, turn-ready, turn-more}
+use Rattle.rules.proofs.Turns.{RuleTurn, empty-rule, turn-first, turn-end, turn-refused, turn-checked, turn-ready, turn-more}
 use Rattle.rules.proofs.load.decode.Statement.{statement}
 use Rattle.rules.proofs.load.decode.Tie as tie
 
 abbrev Inv-loop : tie.InvT-loop
-Inv-loop bytes walk₀ at₀ walk at = Turn bytes walk at
+Inv-loop bytes walk₀ at₀ walk at = RuleTurn bytes walk at
 
 abbrev μ-loop : tie.MeasureT-loop
 μ-loop bytes walk₀ at₀ walk at = length bytes - at
@@ -41,8 +41,8 @@ enum-known-code c = search needs
 item-of-requires : tie.Need-item-of-requires Inv-loop μ-loop
 item-of-requires c κs = search needs
 
-judge-requires : tie.Need-judge-requires Inv-loop μ-loop
-judge-requires c κs =
+check-requires : tie.Need-check-requires Inv-loop μ-loop
+check-requires c κs =
     let t = c .before .before .before .before .before .loop .inv in
     rw (t .follows .counts) (t .good .within)
 
@@ -64,7 +64,7 @@ read-on c =
 with-requires : tie.Need-with-requires Inv-loop μ-loop
 with-requires c κs =
     let t = c .before .before .before .before .before .before .before .before .before .loop .inv in
-    (t .items, turn-ready _ _ _ t _ _ _ (sym (c .before .counts .given .1) ∙ c .before .before .before .judge .ensures))
+    (t .items, turn-ready _ _ _ t _ _ _ (sym (c .before .counts .given .1) ∙ c .before .before .before .check .ensures))
 
 loop-less : tie.Need-loop-less Inv-loop μ-loop
 loop-less c = omega (arith, read-on (c .before .before .before .before .before .before .before), item-inside _ _ _ _ _ _ _ _ (is-item (c .before .before .before .before .before .before .before)))
@@ -72,7 +72,7 @@ loop-less c = omega (arith, read-on (c .before .before .before .before .before .
 loop-again : tie.Need-loop-again Inv-loop μ-loop
 loop-again c =
     let t = c .before .before .before .before .before .before .before .before .before .before .loop .inv in
-    let e = sym (c .before .before .counts .given .1) ∙ c .before .before .before .before .judge .ensures in
+    let e = sym (c .before .before .counts .given .1) ∙ c .before .before .before .before .check .ensures in
     turn-more _ _ _ t _ _ _ _ _ (is-item (c .before .before .before .before .before .before .before)) _ (c .before .before .before .before .before .item-of .ensures) _ e _ (read-on (c .before .before .before .before .before .before .before))
     (c .with .ensures (t .items) (turn-ready _ _ _ t _ _ _ e))
 
@@ -84,9 +84,9 @@ refused-requires-2 c κs = search needs
 
 returns-2 : tie.Need-returns-2 Inv-loop μ-loop
 returns-2 c =
-    let e = sym (c .before .before .refusal .given .1) ∙ c .before .before .before .before .judge .ensures in
+    let e = sym (c .before .before .refusal .given .1) ∙ c .before .before .before .before .check .ensures in
     c .refused2 .ensures
-    ∙ ap ruleOf (turn-judged _ _ _ (c .before .before .before .before .before .before .before .before .before .before .loop .inv) _ _ _ _ _ (is-item (c .before .before .before .before .before .before .before)) _ (c .before .before .before .before .before .item-of .ensures) _ e)
+    ∙ ap ruleOf (turn-checked _ _ _ (c .before .before .before .before .before .before .before .before .before .before .loop .inv) _ _ _ _ _ (is-item (c .before .before .before .before .before .before .before)) _ (c .before .before .before .before .before .item-of .ensures) _ e)
 
 enum-told : tie.Need-enum-told Inv-loop μ-loop
 enum-told c = search needs
@@ -126,7 +126,7 @@ decode-spec =
     read-item-requires
     enum-known-code
     item-of-requires
-    judge-requires
+    check-requires
     enum-known-counts
     with-requires
     loop-less

@@ -1,7 +1,7 @@
 -- `largest` meets its contract: the last values stand last in the array, and the larger of two is returned.
 use native.Mathlib.Omega.{arith}
 use mathlib.Core.Path.{_≡_}
-use Rattle.rules.specs.Walking.{largestOf}
+use Rattle.rules.specs.Inner.Walk.{largestOf}
 use Rattle.rules.proofs.Walking.{largest-one, largest-two}
 use borrow.Author.Needs.{needs}
 use Rattle.rules.proofs.walk.largest.Statement.{statement}

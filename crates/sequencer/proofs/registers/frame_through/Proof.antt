@@ -1,19 +1,19 @@
--- `frame_through` meets its contract. The loop's invariant is `Walk`, and each arm of the match is one of its laws. The measure is how many instructions are left.
+-- `frame_through` meets its contract. The loop's invariant is `Executing`, and each arm of the match is one of its laws. The measure is how many instructions are left.
 use borrow.Author.Needs.{needs}
 use native.Mathlib.Omega.{arith}
 use Prim.Native.Nat.{_+_, _*_, _-_, _≤_}
 use mathlib.Core.Path.{_≡_}
 use lib.ListN.{getD, length-set}
-use Rattle.sequencer.specs.Code.{Instruction, Later}
-use Rattle.sequencer.specs.Programs.{instructionAt}
-use Rattle.sequencer.proofs.Counting.{good-instructions}
-use Rattle.sequencer.proofs.Flat.{code-length}
-use Rattle.sequencer.proofs.Through.{at-one, at-flag, at-nand, at-reach, at-later, Walk, Here, walk-first, bits-length, here, walk-one, walk-flag, walk-nand, walk-reach, walk-later, walk-all}
+use Rattle.code.specs.Code.{Instruction, Later}
+use Rattle.code.specs.Programs.{instructionAt}
+use Rattle.code.proofs.Counting.{good-instructions}
+use Rattle.code.proofs.Flat.{code-length}
+use Rattle.sequencer.proofs.Through.{at-one, at-flag, at-nand, at-reach, at-later, Executing, Here, walk-first, bits-length, here, walk-one, walk-flag, walk-nand, walk-reach, walk-later, walk-all}
 use Rattle.sequencer.proofs.registers.frame_through.Statement.{statement}
 use Rattle.sequencer.proofs.registers.frame_through.Tie as tie
 
 abbrev Inv-loop : tie.InvT-loop
-Inv-loop numbers count frame counters₀ delays₀ bits₀ used₀ taken₀ n₀ counters delays bits used taken n = (n ≤ count) × Walk numbers frame (record { counters = counters₀; delays = delays₀ }) bits₀ n used taken counters delays bits
+Inv-loop numbers count frame counters₀ delays₀ bits₀ used₀ taken₀ n₀ counters delays bits used taken n = (n ≤ count) × Executing numbers frame (record { counters = counters₀; delays = delays₀ }) bits₀ n used taken counters delays bits
 
 abbrev μ-loop : tie.MeasureT-loop
 μ-loop numbers count frame counters₀ delays₀ bits₀ used₀ taken₀ n₀ counters delays bits used taken n = count - n

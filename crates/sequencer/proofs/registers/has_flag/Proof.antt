@@ -1,6 +1,6 @@
 -- `has_flag` meets its contract: shifting right by k is dividing by 2 to the power k.
 use mathlib.Core.Path.{refl}
-use Rattle.reading.specs.Frames.{hasFlag}
+use Rattle.ground.specs.Frames.{hasFlag}
 use borrow.Author.Needs.{needs}
 use Rattle.sequencer.proofs.registers.has_flag.Statement.{statement}
 use Rattle.sequencer.proofs.registers.has_flag.Tie as tie

@@ -1,8 +1,8 @@
 -- `run` meets its contract: the tests of code, clip and buffer are the definition's, in its order, and past them the frames are run.
 use native.Mathlib.Omega.{arith}
 use mathlib.Core.Path.{refl, sym}
-use Rattle.reading.specs.Buffers.{AllBytes}
-use Rattle.sequencer.proofs.Accepted.{Ready, ready, not-ready}
+use Rattle.ground.specs.Buffers.{AllBytes}
+use Rattle.code.proofs.Accepted.{HasCode, ready, not-ready}
 use Rattle.sequencer.proofs.Running.{ran-bad, ran-short, ready-loads, ran-done, ran-all, ran-refused}
 use borrow.Author.Needs.{needs}
 use Rattle.sequencer.proofs.run.run.Statement.{statement}
@@ -15,7 +15,7 @@ enum-known-loaded : tie.Need-enum-known-loaded
 enum-known-loaded c = search needs
 
 -- the code is accepted
-is-ready : (c : tie.After-loaded) → Ready (c .before .before .before .before .before .before .args .code .now) (c .before .before .decode .result .numbers) (c .loaded .given .0 .0)
+is-ready : (c : tie.After-loaded) → HasCode (c .before .before .before .before .before .before .args .code .now) (c .before .before .decode .result .numbers) (c .loaded .given .0 .0)
 is-ready c =
     let small : AllBytes (c .before .before .before .before .before .before .args .code .now) = λ i. omega (arith, c .before .before .before .before .before .shared-slice-known .given i) in
     ready _ _ _ small (c .before .before .decode .ensures) (sym (c .loaded .given .1))

@@ -7,10 +7,10 @@ use lib.ListN.{length}
 use Rattle.sequencer.proofs.Running.{Runs, runs-first, runs-fits, runs-more, runs-all}
 use Rattle.sequencer.proofs.run.run_frames.Statement.{statement}
 use Rattle.sequencer.proofs.run.run_frames.Tie as tie
-use Rattle.sequencer.specs.Programs.{Loads}
+use Rattle.sequencer.specs.Inner.Through.{CanRun}
 
 abbrev Inv-loop : tie.InvT-loop
-Inv-loop numbers count clip out₀ counters₀ delays₀ bits₀ read₀ out counters delays bits read = (f : Loads numbers count clip out₀) × Runs numbers count clip out₀ f counters delays bits out read
+Inv-loop numbers count clip out₀ counters₀ delays₀ bits₀ read₀ out counters delays bits read = (f : CanRun numbers count clip out₀) × Runs numbers count clip out₀ f counters delays bits out read
 
 abbrev μ-loop : tie.MeasureT-loop
 μ-loop numbers count clip out₀ counters₀ delays₀ bits₀ read₀ out counters delays bits read = length clip - read

@@ -2,7 +2,7 @@
 -- left when it is written.
 use mathlib.Core.Path.{refl}
 use mathlib.Core.List.{_++_}
-use Rattle.reading.specs.Refusals.{numberOf, placeOf}
+use Rattle.ground.specs.Refusals.{numberOf, placeOf}
 use Rattle.standing.specs.Text.{ascii, decimal, refusedText}
 use Rattle.standing.proofs.Writing.{Left, all-left, room-for, behind, finish-bytes}
 use borrow.Author.Needs.{needs}

@@ -3,9 +3,9 @@ use mathlib.Core.Path.{sym}
 use native.Mathlib.Omega.{arith}
 use lib.ListN.{length}
 use lib.Seq.{length-take-le}
-use Rattle.reading.specs.Buffers.{AllBytes}
+use Rattle.ground.specs.Buffers.{AllBytes}
 use Rattle.finder.specs.declared.search.Found.{Found}
-use Rattle.finder.proofs.Finding.{says-refused}
+use Rattle.finder.proofs.Answered.{says-refused}
 use Rattle.standing.specs.Text.{headText}
 use Rattle.standing.proofs.Stands.{Searched, rule-refused, met-shown, rule-met, rule-none, search-refused, stands}
 use Rattle.standing.proofs.Writing.{room-for, behind}

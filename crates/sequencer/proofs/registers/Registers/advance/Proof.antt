@@ -1,6 +1,6 @@
 -- `Registers::advance` meets its contract: a frame through sound numbers is a step of the code that they stand for.
 use lib.ListN.{length}
-use Rattle.reading.specs.Limits.{limits}
+use Rattle.ground.specs.Limits.{limits}
 use native.Mathlib.Omega.{arith}
 use mathlib.Core.Path.{_≡_}
 use Rattle.sequencer.proofs.Stepping.{sound-fits, advanced}

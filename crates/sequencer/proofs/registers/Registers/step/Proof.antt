@@ -1,8 +1,8 @@
 -- `Registers::step` meets its contract: a program that is loaded is ready, and a frame through it is a step of its code.
-use Rattle.reading.specs.Buffers.{AllBytes}
+use Rattle.ground.specs.Buffers.{AllBytes}
 use native.Mathlib.Omega.{arith}
 use mathlib.Core.Path.{sym}
-use Rattle.sequencer.proofs.Accepted.{Ready, ready, not-ready}
+use Rattle.code.proofs.Accepted.{HasCode, ready, not-ready}
 use Rattle.sequencer.proofs.Stepping.{stepped-ready, stepped-refused}
 use borrow.Author.Needs.{needs}
 use Rattle.sequencer.proofs.registers.Registers.step.Statement.{statement}
@@ -15,7 +15,7 @@ enum-known-loaded : tie.Need-enum-known-loaded
 enum-known-loaded c = search needs
 
 -- the code is accepted
-is-ready : (c : tie.After-loaded) → Ready (c .before .before .before .before .args .code .now) (c .before .before .decode .result .numbers) (c .loaded .given .0 .0)
+is-ready : (c : tie.After-loaded) → HasCode (c .before .before .before .before .args .code .now) (c .before .before .decode .result .numbers) (c .loaded .given .0 .0)
 is-ready c =
     let small : AllBytes (c .before .before .before .before .args .code .now) = λ i. omega (arith, c .before .before .before .shared-slice-known .given i) in
     ready _ _ _ small (c .before .before .decode .ensures) (sym (c .loaded .given .1))

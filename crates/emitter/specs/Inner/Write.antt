@@ -1,0 +1,25 @@
+-- Code written behind code. Contracts of inner functions cite it; `emit` says nothing of it.
+use mathlib.Core.Path.{_≡_}
+use mathlib.Core.List.{List}
+use Prim.Native.Nat.{ℕ, _+_, _≤_}
+use lib.ListN.{length}
+use Rattle.reading.specs.InTurn.{bytesOfAll}
+use Rattle.ground.specs.Limits.{limits}
+use Rattle.ground.specs.Buffers.{written}
+use Rattle.code.specs.Code.{Code, bytesOfInstruction}
+use Rattle.emitter.specs.declared.write.CodeEnd.{CodeEnd}
+
+-- The end of code, with code behind it
+unfoldable pub endAfter : CodeEnd → Code → CodeEnd
+endAfter end code =
+    record { at = end .at + length (bytesOfAll bytesOfInstruction code); count = end .count + length code }
+
+-- There is room for code behind code: for its bytes in a buffer, and for its instructions among those that code may have
+pub record CodeRoom (out : List ℕ) (end : CodeEnd) (code : Code) : Type 0 where
+  pub bytes : end .at + length (bytesOfAll bytesOfInstruction code) ≤ length out
+  pub numbers : end .count + length code ≤ limits .instructions
+
+-- Code stands in the buffer behind code that ended there, and all else is as it was
+pub record CodeWrote (out : List ℕ) (end : CodeEnd) (code : Code) (after : List ℕ) (then : CodeEnd) : Type 0 where
+  pub own-bytes : after ≡ written out (end .at) (bytesOfAll bytesOfInstruction code)
+  pub own-end : then ≡ endAfter end code

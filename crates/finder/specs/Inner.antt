@@ -1,0 +1,4 @@
+-- What only inner functions and proofs cite: a reader of the public statements needs none of it.
+pub mod Flags
+pub mod Explore
+pub mod Search

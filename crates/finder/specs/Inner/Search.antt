@@ -1,0 +1,65 @@
+-- What the parts of `search` need and leave. Contracts of inner functions cite it; `search` says nothing of it.
+use mathlib.Core.Path.{_≡_}
+use mathlib.Core.List.{List, _∷_}
+use Prim.Native.Nat.{ℕ, _+_, _*_, _≤_, _<_}
+use lib.ListN.{length}
+use Rattle.ground.specs.Buffers.{over}
+use Rattle.ground.specs.Frames.{Clip}
+use Rattle.ground.specs.Limits.{limits}
+use Rattle.ground.specs.declared.refusal.Refusal.{Refusal}
+use Rattle.rules.specs.Formula.{Formula, horizon}
+use Rattle.rules.specs.Loading.{Items, accepted, readRule}
+use Rattle.rules.specs.Meaning.{Holds}
+use Rattle.rules.specs.declared.load.Rule.{Rule}
+use Rattle.code.specs.Programs.{Sound, codeIn}
+use Rattle.rules.specs.Loaded.{LoadedFrom}
+use Rattle.emitter.specs.Translation.{codeFor}
+use Rattle.paths.specs.Answers.{First}
+use Rattle.finder.specs.Inner.Explore.{Outputs, Shows}
+use Rattle.finder.specs.Search.{Answers}
+use Rattle.finder.specs.declared.explore.Explored.{Explored}
+use Rattle.finder.specs.declared.search.Found.{Found}
+
+-- A state shows a clip for which the witness buffer has room, with a frame in front
+pub record CanShow (table : List ℕ) (state : ℕ) (witness : List ℕ) : Type 0 where
+  pub clip : Clip
+  pub shows : Shows table state clip
+  pub inside : (state + 1) * limits .record_bytes ≤ length table
+  pub most : state < limits .records
+  pub room : length clip + 1 ≤ length witness
+
+-- What showing it leaves: the clip that the state shows with the frame in front, over the buffer's first bytes
+abbrev pub Showing : List ℕ → ℕ → ℕ → List ℕ → List ℕ → ℕ → Type 0
+Showing table state frame before after r =
+    (clip : Clip) → Shows table state clip → (r ≡ length clip + 1) × (after ≡ over (frame ∷ clip) before)
+
+-- What telling an end needs: if it is a state's clip, the state shows it, and there is room for it
+abbrev pub CanTell : Explored → List ℕ → List ℕ → Type 0
+CanTell (Explored.Met state frame states) table witness = CanShow table state witness
+CanTell (Explored.None states) table witness = Unit {0}
+CanTell Explored.NoRoom table witness = Unit {0}
+
+-- What telling it answers, and leaves in the witness buffer
+abbrev pub Tells : Explored → List ℕ → List ℕ → Found → List ℕ → Type 0
+Tells (Explored.Met state frame states) table witness r witness′ =
+    (clip : Clip) → Shows table state clip → (r ≡ Found.Met (length clip + 1) states) × (witness′ ≡ over (frame ∷ clip) witness)
+Tells (Explored.None states) table witness r witness′ = (r ≡ Found.None states) × (witness′ ≡ witness)
+Tells Explored.NoRoom table witness r witness′ = (r ≡ Found.Refused Refusal.NoRoom) × (witness′ ≡ witness)
+
+-- Sound code, and a witness buffer that has room for the first clip on which its output is 1
+pub record CanSearch (numbers : List ℕ) (n : ℕ) (witness : List ℕ) : Type 0 where
+  pub sound : Sound numbers n
+  pub room : (c : Clip) → First (Outputs (codeIn numbers n)) c → length c ≤ length witness
+
+-- The bytes of an accepted rule, the rule that is loaded from them, and a witness buffer that is long enough
+pub record Searchable (bytes : List ℕ) (rule : Rule) (witness : List ℕ) : Type 0 where
+  pub loads : LoadedFrom bytes rule
+  pub is : Items
+  pub formula : Formula
+  pub reads : readRule bytes ≡ accepted is formula
+  pub long : horizon formula + 1 ≤ length witness
+
+-- What is answered for an accepted rule
+abbrev pub RuleAnswers : List ℕ → List ℕ → List ℕ → Found → List ℕ → List ℕ → Type 0
+RuleAnswers rule table witness r table′ witness′ =
+    (is : Items) (f : Formula) → readRule rule ≡ accepted is f → Answers (codeFor f) (Holds f) table witness r table′ witness′

@@ -1,0 +1,21 @@
+// Bytes as numbers, and bits as bytes.
+ghost use mathlib.Core.Path.{_≡_};
+ghost use Prim.Native.Nat.{_<_};
+ghost use Rattle.ground.specs.Buffers.{byteOf};
+
+// A byte as a number.
+pub fn wide(byte: u8) -> u16
+    ensures { λ r. ⌜ (r ≡ byte) × (r < 256) ⌝ }
+{
+    byte as u16
+}
+
+// A bit as a byte.
+pub fn byte_of(bit: bool) -> u8
+    ensures { λ r. ⌜ r ≡ byteOf bit ⌝ }
+{
+    if bit {
+        return 1;
+    }
+    0
+}

@@ -1,0 +1,5 @@
+// What rules and code both stand on: the limits of document 01, refusals, bytes, and bytes in buffers.
+pub mod buffer;
+pub mod byte;
+pub mod limits;
+pub mod refusal;

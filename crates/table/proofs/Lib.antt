@@ -1,0 +1,5 @@
+-- The laws that the functions' proofs cite, and those of the crates above.
+pub mod Chains
+pub mod Records
+pub mod Words
+pub mod Tables

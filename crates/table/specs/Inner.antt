@@ -1,0 +1,5 @@
+-- What only inner functions and proofs cite: a reader of the public statements needs none of it.
+pub mod Chains
+pub mod Records
+pub mod Index
+pub mod Tables

@@ -1,0 +1,3 @@
+-- What the contracts of `table` cite.
+pub mod Room
+pub mod Inner
