@@ -1,4 +1,5 @@
--- What is known of a choice that came out as its first way doesn't: the test failed, and the rest came out so; and of one whose ways are alike. For tests in turn, each of which refuses.
+-- What is known of a choice that came out as its first way doesn't: the test failed, and the rest came out so; and of one whose ways are alike. For tests in
+-- turn, each of which refuses.
 use mathlib.Core.Path.{_≡_, refl}
 use mathlib.Core.Bool.{Bool, true, false, cond, _||_}
 use Prim.Native.Nat.{ℕ}

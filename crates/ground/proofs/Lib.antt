@@ -2,6 +2,7 @@
 pub mod Choices
 pub mod Each
 pub mod Padded
+pub mod Stacked
 pub mod Written
 pub mod Buffers
 pub mod Refusals

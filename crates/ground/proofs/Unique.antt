@@ -3,6 +3,7 @@
 use mathlib.Core.Path.{_≡_, sym, _∙_}
 use Rattle.ground.proofs.buffer.write_bytes.Reads as write-bytes
 use Rattle.ground.proofs.limits.all.Reads as all
+use Rattle.ground.proofs.limits.all_bounds.Reads as all-bounds
 use Rattle.ground.proofs.byte.wide.Reads as wide
 use Rattle.ground.proofs.refusal.number.Reads as number
 use Rattle.ground.proofs.refusal.place.Reads as place
@@ -10,6 +11,9 @@ use Rattle.ground.proofs.byte.byte_of.Reads as byte-of
 
 pub all-unique : (κs : _) (a : _) (r s : _) (x y : _) → all.Post κs a r x → all.Post κs a s y → r ≡ s
 all-unique κs a r s x y p q = cc
+
+pub all-bounds-unique : (κs : _) (a : _) (r s : _) (x y : _) → all-bounds.Post κs a r x → all-bounds.Post κs a s y → r ≡ s
+all-bounds-unique κs a r s x y p q = cc
 
 pub wide-unique : (κs : _) (a : _) (r s : _) (x y : _) → wide.Post κs a r x → wide.Post κs a s y → r ≡ s
 wide-unique κs a r s x y p q = p .0 ∙ sym (q .0)

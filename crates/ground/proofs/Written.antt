@@ -1,5 +1,5 @@
--- Laws of `written` and `placeAfter`: bytes that fit stand from the place on and the next place is behind them, and bytes that don't leave all as it was. As stores one by
--- one, bytes written behind bytes are as if all were written at once.
+-- Laws of `written` and `placeAfter`: bytes that fit stand from the place on and the next place is behind them, and bytes that don't leave all as it was. As
+-- stores one by one, bytes written behind bytes are as if all were written at once.
 use mathlib.Core.Path.{_≡_, sym}
 use mathlib.Core.List.{List, [], _∷_, _++_, append-assoc, append-nil}
 use Prim.Native.Nat.{ℕ, suc, _+_, _-_, _≤_, _<_}
@@ -52,7 +52,9 @@ module _ (buffer : List ℕ) (at : ℕ) (xs ys : List ℕ) (fits : at + length (
       let (stores, place) = fitting buffer at xs (omega (arith, length-append xs ys)) in
       rw (← stores, ← place, length-sets) (omega (arith, length-append xs ys))
 
-  pub written-more : (written (written buffer at xs) (placeAfter buffer at xs) ys ≡ written buffer at (xs ++ ys)) × (placeAfter (written buffer at xs) (placeAfter buffer at xs) ys ≡ placeAfter buffer at (xs ++ ys))
+  pub written-more :
+      (written (written buffer at xs) (placeAfter buffer at xs) ys ≡ written buffer at (xs ++ ys))
+      × (placeAfter (written buffer at xs) (placeAfter buffer at xs) ys ≡ placeAfter buffer at (xs ++ ys))
   written-more =
       let (first, place) = fitting buffer at xs (omega (arith, length-append xs ys)) in
       let (both, end) = fitting buffer at (xs ++ ys) fits in
@@ -60,7 +62,8 @@ module _ (buffer : List ℕ) (at : ℕ) (xs ys : List ℕ) (fits : at + length (
       (rw (← second, ← first, ← place, sets-append) both, rw (← last, ← place, add-assoc) (rw length-append at end))
 
 -- what stands in a buffer once bytes that fit are written
-pub written-fitting : (buffer : List ℕ) (at : ℕ) (bytes : List ℕ) → at + length bytes ≤ length buffer → (written buffer at bytes ≡ take at buffer ++ (bytes ++ drop (at + length bytes) buffer)) × (placeAfter buffer at bytes ≡ at + length bytes)
+pub written-fitting : (buffer : List ℕ) (at : ℕ) (bytes : List ℕ) → at + length bytes ≤ length buffer
+    → (written buffer at bytes ≡ take at buffer ++ (bytes ++ drop (at + length bytes) buffer)) × (placeAfter buffer at bytes ≡ at + length bytes)
 unfolding written placeAfter
 written-fitting buffer at bytes fits =
     (rw (le-leb _ _ fits) (append-assoc (take at buffer) bytes (drop (at + length bytes) buffer)), rw (le-leb _ _ fits))
@@ -73,4 +76,14 @@ copied buffer at bytes part fits e =
     let (stand, place) = written-fitting buffer at bytes fits in
     let rest : length (drop at buffer) ≤ length buffer - at = simp length-drop (omega arith) in
     let behind : drop (length bytes) (drop at buffer) ≡ drop (at + length bytes) buffer = drop-drop (length bytes) at buffer in
-    (rw (stand, e, take-all (length buffer - at) (drop at buffer) rest, take-all (length bytes) bytes (omega arith), drop-of-length-le (drop at buffer) {i = length buffer - at} rest, append-nil, behind), sym place)
+    let whole : putMid at (length buffer - at) buffer part ≡ written buffer at bytes =
+    rw (
+      stand,
+      e,
+      take-all (length buffer - at) (drop at buffer) rest,
+      take-all (length bytes) bytes (omega arith),
+      drop-of-length-le (drop at buffer) {i = length buffer - at} rest,
+      append-nil,
+      behind,
+    ) in
+    (whole, sym place)

@@ -1,5 +1,5 @@
--- What buffers hold, and answers in them. Document 01: "16 output buffer shorter than the answer" and "An entry that writes an answer starts at the buffer's first byte, and the
--- bytes behind the answer stay".
+-- What buffers hold, and answers in them. Document 01: "16 output buffer shorter than the answer" and "An entry that
+-- writes an answer starts at the buffer's first byte, and the bytes behind the answer stay".
 use mathlib.Core.Bool.{Bool, true, false, cond}
 use mathlib.Core.List.{List, _++_}
 use Prim.Native.Nat.{ℕ, _+_, _<_}

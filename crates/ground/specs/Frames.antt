@@ -1,4 +1,5 @@
--- Frames and clips. Document 01: "A clip is a byte for each frame; flag k is bit k (value 2 to the power k). Frame 0 is the earliest."
+-- Frames and clips. Document 01: "A clip is a byte for each frame; flag k is bit k (value 2 to the power k). Frame 0 is
+-- the earliest."
 use mathlib.Core.Bool.{Bool}
 use mathlib.Core.List.{List}
 use Prim.Native.Nat.{ℕ, _/_, _%_, _^_}

@@ -1,4 +1,5 @@
--- The number and the place of each refusal. Document 01, "Refusal numbers": "Each returns number and place .. A refusal for which no place is named gives place 0."
+-- The number and the place of each refusal. Document 01, "Refusal numbers": "Each returns number and place .. A refusal
+-- for which no place is named gives place 0."
 use Prim.Native.Nat.{ℕ}
 use Rattle.ground.specs.declared.refusal.Refusal.{Refusal}
 

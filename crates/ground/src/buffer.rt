@@ -3,9 +3,11 @@ ghost use mathlib.Core.Path.{_≡_};
 ghost use Rattle.ground.specs.Buffers.{written, placeAfter};
 use bytes::copy;
 
-// Writes bytes from a place on and answers the place behind them. Bytes that do not fit are not written, and the answer is the place itself.
+// Writes bytes from a place on and answers the place behind them. Bytes that do not fit are not written, and the answer
+// is the place itself.
 pub fn write_bytes(buffer: &mut [u8], at: usize, bytes: &[u8]) -> usize
-    ensures { λ r. ⌜ (now (buffer .exit) ≡ written (now (buffer .entry)) at (now (bytes .entry))) × (r ≡ placeAfter (now (buffer .entry)) at (now (bytes .entry))) ⌝ }
+    ensures buffer { λ r. ⌜ now (buffer .exit) ≡ written (now (buffer .entry)) at (now (bytes .entry)) ⌝ }
+    ensures place { λ r. ⌜ r ≡ placeAfter (now (buffer .entry)) at (now (bytes .entry)) ⌝ }
 {
     if buffer.len() < at {
         return at;

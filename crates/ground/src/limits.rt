@@ -1,7 +1,7 @@
-// The limits of document 01, each under one name. specs/Limits.antt has the same list for definitions and proofs, and the proof of
-// `all` says that the two are one.
+// The limits of document 01, each under one name. specs/Limits.antt has the same list for definitions and proofs, and
+// the proof of `all` says that the two are one.
 ghost use mathlib.Core.Path.{_≡_};
-ghost use Rattle.ground.specs.Limits.{limits};
+ghost use Rattle.ground.specs.Limits.{limits, bounds};
 
 // A number of rules and code.
 pub const MOST_NUMBER: u16 = 16_383;
@@ -17,7 +17,7 @@ pub const MOST_TIMED: usize = 16;
 
 pub const MOST_LOWER: usize = 256;
 
-// Code: a width, a distance, instructions, REACH instructions (one counter each), the sum of the distances (one delay bit each).
+// Code: a width, a distance, instructions, REACH instructions (a counter each), the sum of the distances (a bit each).
 pub const MOST_WIDTH: u16 = 255;
 
 pub const MOST_DISTANCE: u16 = 255;
@@ -34,6 +34,16 @@ pub const MOST_FRAMES: usize = 65_535;
 pub const RECORD: usize = 80;
 
 pub const MOST_RECORDS: usize = 65_536;
+
+// What follows from them: the greatest horizon of a rule and the most bytes that it has, and bounds on the instructions
+// and the bytes of its code. Buffers of so many bytes always suffice.
+pub const MOST_HORIZON: usize = MOST_BOUND as usize * MOST_TIMED;
+
+pub const MOST_RULE: usize = 2 * MOST_ITEMS + 3 * MOST_TIMED;
+
+const MOST_EMITTED: usize = 3 * MOST_ITEMS + 2 * MOST_TIMED;
+
+pub const MOST_CODE: usize = 5 * MOST_EMITTED + 2 * MOST_TIMED;
 
 // All limits together.
 pub struct Limits {
@@ -72,5 +82,23 @@ pub fn all() -> Limits
         frames: MOST_FRAMES,
         record_bytes: RECORD,
         records: MOST_RECORDS,
+    }
+}
+
+// The bounds together.
+pub struct Bounds {
+    pub horizon: usize,
+    pub rule: usize,
+    pub code: usize,
+}
+
+// The bounds above, as one value.
+pub fn all_bounds() -> Bounds
+    ensures { λ r. ⌜ r ≡ bounds ⌝ }
+{
+    Bounds {
+        horizon: MOST_HORIZON,
+        rule: MOST_RULE,
+        code: MOST_CODE,
     }
 }

@@ -12,10 +12,10 @@ use borrow.Author.Tests.{lt-ltb, le-ltb, le-leb, lt-leb, ne-eqb, eqb-false, leb-
 use lib.Dec.{eqb, leb}
 use lib.ListN.{length, getD, take, drop, length-append, length-drop, length-take}
 use lib.Seq.{drop-drop, drop-append-seam, append-snoc, getD-drop, take-at}
-use Rattle.ground.specs.Buffers.{AllBytes}
+use Rattle.ground.specs.Buffers.{AllBytes, byteValues}
 use Rattle.ground.specs.Limits.{limits}
-use Rattle.reading.specs.Numbers.{firstByte, secondByte, numberAt, numberBytes}
-use Rattle.reading.specs.Items.{codeFirst, itemAt, withNumber, numbersFrom, numbersOf, noCode, numbersBytes, itemBytes}
+use Rattle.reading.specs.Numbers.{group, firstByte, secondByte, numberAt, numberBytes}
+use Rattle.reading.specs.Items.{mostNumbers, codeFirst, itemAt, withNumber, numbersFrom, numbersOf, noCode, numbersBytes, itemBytes}
 use Rattle.ground.specs.Padded.{padded}
 use Rattle.reading.specs.declared.number.Number.{Number}
 use Rattle.reading.specs.declared.number.Number.the-variants.{Value, Short, Long}
@@ -40,30 +40,30 @@ Begins s = (m : ℕ) × (rest : List ℕ) × (m ≤ limits .number) × (s ≡ nu
 
 -- where a number is read, the bytes begin with those of one
 module _ (at : ℕ) {n next : ℕ} where
-  begins-two : (low : ℕ) (s : List ℕ) → 128 ≤ low → low < 256 → secondByte at low s ≡ Value n next → Begins (low ∷ s)
+  begins-two : (low : ℕ) (s : List ℕ) → group ≤ low → low < byteValues → secondByte at low s ≡ Value n next → Begins (low ∷ s)
   unfolding numberBytes
   begins-two low [] h b e = never (cc)
-  begins-two low (high ∷ rest) h b e = tested (eqb high 0) (leb 128 high) refl refl
+  begins-two low (high ∷ rest) h b e = tested (eqb high 0) (leb group high) refl refl
     where
-      tested : (none large : Bool) → eqb high 0 ≡ none → leb 128 high ≡ large → Begins (low ∷ high ∷ rest)
+      tested : (none large : Bool) → eqb high 0 ≡ none → leb group high ≡ large → Begins (low ∷ high ∷ rest)
       tested true large p q = never (cc (rw p at e))
       tested false true p q = never (cc (rw (p, q) at e))
       tested false false p q =
           let above = eqb-false high 0 p in
-          let below = leb-false 128 high q in
-          let m : ℕ = low - 128 + 128 * high in
-          let x : m % 128 + 128 ≡ low = omega arith in
-          let y : m / 128 ≡ high = omega arith in
+          let below = leb-false group high q in
+          let m : ℕ = low - group + group * high in
+          let x : m % group + group ≡ low = omega arith in
+          let y : m / group ≡ high = omega arith in
           let t : m ≤ limits .number = omega arith in
-          (m, rest, t, rw (le-ltb m 128 (omega arith), le-leb m (limits .number) t, x, y), omega arith)
+          (m, rest, t, rw (le-ltb m group (omega arith), le-leb m (limits .number) t, x, y), omega arith)
 
   begins : (s : List ℕ) → AllBytes s → firstByte at s ≡ Value n next → Begins s
   unfolding numberBytes
   begins [] small e = never (cc)
   begins (low ∷ rest) small e =
-      by-cases (decLt low 128)
-      (λ h. (low, rest, omega arith, rw (lt-ltb low 128 h), omega arith))
-      λ h. begins-two low rest (omega arith) (small 0) (rw (le-ltb low 128 (omega arith)) at e)
+      by-cases (decLt low group)
+      (λ h. (low, rest, omega arith, rw (lt-ltb low group h), omega arith))
+      λ h. begins-two low rest (omega arith) (small 0) (rw (le-ltb low group (omega arith)) at e)
 
 module _ (bytes : List ℕ) (at : ℕ) where
   rest-behind : (own rest : List ℕ) → drop at bytes ≡ own ++ rest → drop (at + length own) bytes ≡ rest
@@ -91,14 +91,14 @@ module _ (bytes : List ℕ) (at : ℕ) where
   pub number-there : (n next : ℕ) → n ≤ limits .number → Stands bytes at (numberBytes n) next → numberAt bytes at ≡ Value n next
   unfolding numberAt numberBytes
   number-there n next t s =
-      by-cases (decLt n 128)
-      (λ h. let r = rw (lt-ltb n 128 h) at s in rw (r .here, r .behind, lt-ltb n 128 h))
+      by-cases (decLt n group)
+      (λ h. let r = rw (lt-ltb n group h) at s in rw (r .here, r .behind, lt-ltb n group h))
       λ h.
-      let r = rw (le-ltb n 128 (omega arith), le-leb n (limits .number) t) at s in
-      let low : ℕ = n % 128 + 128 in
-      let high : ℕ = n / 128 in
-      let v : low - 128 + 128 * high ≡ n = omega arith in
-      rw (r .here, r .behind, le-ltb low 128 (omega arith), ne-eqb high 0 (omega arith), lt-leb 128 high (omega arith), v)
+      let r = rw (le-ltb n group (omega arith), le-leb n (limits .number) t) at s in
+      let low : ℕ = n % group + group in
+      let high : ℕ = n / group in
+      let v : low - group + group * high ≡ n = omega arith in
+      rw (r .here, r .behind, le-ltb low group (omega arith), ne-eqb high 0 (omega arith), lt-leb group high (omega arith), v)
 
   pub number-back : (n next : ℕ) → AllBytes bytes → numberAt bytes at ≡ Value n next → (n ≤ limits .number) × Stands bytes at (numberBytes n) next
   unfolding numberAt
@@ -152,10 +152,10 @@ pub record Fitting (table : Table) (code i j k : ℕ) : Type 0 where
   pub first : i ≤ limits .number
   pub second : j ≤ limits .number
   pub third : k ≤ limits .number
-  pub lacks : i ∷ j ∷ k ∷ [] ≡ padded 3 (take (numbersOf table code) (i ∷ j ∷ k ∷ []))
+  pub lacks : i ∷ j ∷ k ∷ [] ≡ padded mostNumbers (take (numbersOf table code) (i ∷ j ∷ k ∷ []))
 
 -- an array of three holds up to three numbers
-three : (ns : List ℕ) → length ns ≤ 3 → getD ns 0 0 ∷ getD ns 1 0 ∷ getD ns 2 0 ∷ [] ≡ padded 3 ns
+three : (ns : List ℕ) → length ns ≤ mostNumbers → getD ns 0 0 ∷ getD ns 1 0 ∷ getD ns 2 0 ∷ [] ≡ padded mostNumbers ns
 unfolding padded
 three [] h = refl
 three (a ∷ []) h = refl

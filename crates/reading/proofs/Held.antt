@@ -1,15 +1,18 @@
--- What the walks over a `Reader` share. The check's own walk of a function's code does not cover a struct that holds a reference, so each function that takes, makes or keeps a `Reader` is walked by hand,
--- statement by statement, and what is the same in each stands here.
---     Lent, Row        the types of lent bytes and of a reader, at a lifetime.        Fields, laws     the struct and its fields' laws
---     lent-value, table-value          the machine values of lent bytes and of a table of codes
---     lent-copy, reader-copy           both types are Copy.        …-lawful         a machine value has its type; in a local, the type of a reader has no lifetime's name
---     self, lent, place, table         a reader, lent bytes, a number and a table of codes as parameters, each seen at exit as it was passed
---     stayed           what a walk has of such parameters at exit
---     raised           a walk of the code of a function of such parameters, without a `requires`, becomes the function's statement
---     token            that the lifetime lasts
---     numbered, tabled what a number and a table own, which is facts alone
---     twice            what a value of a Copy type owns is had twice
---     answered         a call of a function whose `ensures` is a fact: once it has returned, the fact is known, and what the result owns is had beside the lifetimes
+-- What the walks over a `Reader` share. The check's own walk of a function's code does not cover a struct that holds a reference, so each function that takes,
+-- makes or keeps a `Reader` is walked by hand, statement by statement, and what is the same in each stands here.
+--     Lent, Row                the types of lent bytes and of a reader, at a lifetime
+--     Fields, laws             the struct and its fields' laws
+--     lent-value, table-value  the machine values of lent bytes and of a table of codes
+--     lent-copy, reader-copy   both types are Copy
+--     …-lawful                 a machine value has its type; in a local, the type of a reader has no lifetime's name
+--     self, lent, place, table a reader, lent bytes, a number and a table of codes as parameters, each seen at exit as it was passed
+--     stayed                   what a walk has of such parameters at exit
+--     raised                   a walk of the code of a function of such parameters, without a `requires`, becomes the function's statement
+--     token                    that the lifetime lasts
+--     numbered, tabled         what a number and a table own, which is facts alone
+--     twice                    what a value of a Copy type owns is had twice
+--     answered                 a call of a function whose `ensures` is a fact: once it has returned, the fact is known, and what the result owns is had
+--                              beside the lifetimes
 use mathlib.Core.Path.{_≡_, refl}
 use mathlib.Core.List.{List, [], _∷_}
 use Prim.Native.Nat.{ℕ, _<_, _^_}
@@ -105,7 +108,13 @@ pub record Param : Type 2 where
   pub tells : (κs : Lfts 1) → Tells (row κs) (Is (row κs)) (values κs)
 
 abbrev pub self : Param
-self = record { row = λ κs. Row (κs .0); silent = λ κs x f. refl; values = λ κs. LL.vals (Fields (κs .0)) (laws (κs .0)); tells = λ κs. LL.tells (Fields (κs .0)) (laws (κs .0)) }
+self =
+    record {
+      row = λ κs. Row (κs .0);
+      silent = λ κs x f. refl;
+      values = λ κs. LL.vals (Fields (κs .0)) (laws (κs .0));
+      tells = λ κs. LL.tells (Fields (κs .0)) (laws (κs .0));
+    }
 
 abbrev pub lent : Param
 lent = record { row = λ κs. Lent (κs .0); silent = λ κs x f. refl; values = λ κs. slice-vals; tells = λ κs. shr-slice-tells (named 0) (κs .0) u8 }
@@ -158,19 +167,26 @@ module _ (ps : List Param) (result : Slot 1) where
 
   -- a walk of the function's code, from the parameters to the exit
   abbrev Walk : {M : Type 1} (𝓤 : URA M) (H : Heap 𝓤) (A : Atoms 𝓤) → Clauses 𝓤 ended → Fun 𝓤 → Type 1
-  Walk 𝓤 H A c code = (κs : Lfts 1) (qs : Shares 1) (bounds : AllOutlive 1 [] κs) (a : Args (ended .signature) κs) (g : c κs a .ghost) → Are (rows κs) (Ises (rows κs)) a (machine κs a)
-      → ent 𝓤 (onEntry 𝓤 H A (ended .signature) κs qs a (machine κs a)) (code (flat (rows κs) (machine κs a)) (walkOf 𝓤 H A ended (stayed ps) c .post ((κs, qs, bounds, a, machine κs a), g)))
+  Walk 𝓤 H A c code =
+      (κs : Lfts 1) (qs : Shares 1) (bounds : AllOutlive 1 [] κs) (a : Args (ended .signature) κs) (g : c κs a .ghost)
+      → Are (rows κs) (Ises (rows κs)) a (machine κs a)
+      → ent 𝓤 (onEntry 𝓤 H A (ended .signature) κs qs a (machine κs a))
+      (code (flat (rows κs) (machine κs a)) (walkOf 𝓤 H A ended (stayed ps) c .post ((κs, qs, bounds, a, machine κs a), g)))
 
-  module _ {M : Type 1} (𝓤 : URA M) (H : Heap 𝓤) (𝓜 : Model 𝓤 H) (𝓖 : GhostRules 𝓤 H) (𝓡 : Running 𝓤 H 𝓜) (c : Clauses 𝓤 ended) (γ : Routines) (k : Name) (f : Fn) where
+  module _ {M : Type 1} (𝓤 : URA M) (H : Heap 𝓤) (𝓜 : Model 𝓤 H) (𝓖 : GhostRules 𝓤 H) (𝓡 : Running 𝓤 H 𝓜)
+      (c : Clauses 𝓤 ended) (γ : Routines) (k : Name) (f : Fn) where
     abbrev code : Fun 𝓤
     code = WpFn 𝓤 H (tables 𝓤 H 𝓜 𝓡 γ .C) (tables 𝓤 H 𝓜 𝓡 γ .Λ) f
 
-    pub raised : Closed 𝓤 H (tables 𝓤 H 𝓜 𝓡 γ .C) (tables 𝓤 H 𝓜 𝓡 γ .Λ) k f → Walk 𝓤 H (𝓖 .A) c code → Triple 𝓤 (tables 𝓤 H 𝓜 𝓡 γ .C k) (Statement 𝓤 H (𝓖 .A) ended c)
+    pub raised : Closed 𝓤 H (tables 𝓤 H 𝓜 𝓡 γ .C) (tables 𝓤 H 𝓜 𝓡 γ .Λ) k f → Walk 𝓤 H (𝓖 .A) c code
+        → Triple 𝓤 (tables 𝓤 H 𝓜 𝓡 γ .C k) (Statement 𝓤 H (𝓖 .A) ended c)
     unfolding tablesOf
     raised closed walk =
         entered 𝓤 H (Statement 𝓤 H (𝓖 .A) ended c) (tables 𝓤 H 𝓜 𝓡 γ .C) (tables 𝓤 H 𝓜 𝓡 γ .Λ) k f closed
-        (walk-meets 𝓤 H (𝓖 .A) ended (stayed ps) (givenOf 𝓤 H 𝓜 𝓖) (all-go 𝓤 H (𝓖 .A) (givenOf 𝓤 H 𝓜 𝓖) ps) c code (WpFn-mono 𝓤 H (givenOf 𝓤 H 𝓜 𝓖 .laws) (tablesOf 𝓤 H 𝓜 (tables 𝓤 H 𝓜 𝓡 γ)) f)
-        (walked 𝓤 H (𝓖 .A) ended (stayed ps) c code (spells ps) (tell ps) (λ κs qs bounds a g are. via 𝓤 _ (fst∗ 𝓤 _ (c κs a .requires g)) (walk κs qs bounds a g are))))
+        (walk-meets 𝓤 H (𝓖 .A) ended (stayed ps) (givenOf 𝓤 H 𝓜 𝓖) (all-go 𝓤 H (𝓖 .A) (givenOf 𝓤 H 𝓜 𝓖) ps) c code
+        (WpFn-mono 𝓤 H (givenOf 𝓤 H 𝓜 𝓖 .laws) (tablesOf 𝓤 H 𝓜 (tables 𝓤 H 𝓜 𝓡 γ)) f)
+        (walked 𝓤 H (𝓖 .A) ended (stayed ps) c code (spells ps) (tell ps)
+        (λ κs qs bounds a g are. via 𝓤 _ (fst∗ 𝓤 _ (c κs a .requires g)) (walk κs qs bounds a g are))))
 
 -- ---- steps of a walk
 abbrev pub token : {M : Type 1} {𝓤 : URA M} → Lft → Share → Item 𝓤
@@ -180,10 +196,12 @@ module _ {M : Type 1} {𝓤 : URA M} {H : Heap 𝓤} {A : Atoms 𝓤} {K : Type 
   pub numbered : K → {G : Goal 𝓤 H} (n : ℕ) → n < 2 ^ 64 → Step K W (‵ (usize .own n (vint w64 n ∷ [])) ∷ Γ) G Γ G
   numbered t n fits = owned t usize (Is usize) (uint-makes 𝓤 H A W w64) n _ (refl, fits)
 
-  pub tabled : K → {G : Goal 𝓤 H} (which : Table) → Is S.the-row which (table-value which ∷ []) → Step K W (‵ (S.the-row .own which (table-value which ∷ [])) ∷ Γ) G Γ G
+  pub tabled : K → {G : Goal 𝓤 H} (which : Table) → Is S.the-row which (table-value which ∷ [])
+      → Step K W (‵ (S.the-row .own which (table-value which ∷ [])) ∷ Γ) G Γ G
   tabled t which is = owned t S.the-row (Is S.the-row) (EL.makes S.the-type S′.the-plain 𝓤 H A) which _ is
 
-  pub twice : K → {G : Goal 𝓤 H} (R : RattleType) → Copy 𝓤 H A R → (x : R .Denot) (u : Val) → Step K W (‵ (R .own x (u ∷ [])) ∷ ‵ (R .own x (u ∷ [])) ∷ Γ) G (‵ (R .own x (u ∷ [])) ∷ Γ) G
+  pub twice : K → {G : Goal 𝓤 H} (R : RattleType) → Copy 𝓤 H A R → (x : R .Denot) (u : Val)
+      → Step K W (‵ (R .own x (u ∷ [])) ∷ ‵ (R .own x (u ∷ [])) ∷ Γ) G (‵ (R .own x (u ∷ [])) ∷ Γ) G
   twice t R copy x u = step (λ s. use1 W (‵ (R .own x (u ∷ [])) ⊛ ‵ (R .own x (u ∷ []))) (copy .twice x (u ∷ [])) $ split t $ s)
 
   module _ {E : Env 𝓤 H} {C : Calls 𝓤 H} {Λ : Loops 𝓤 H} {q : Post 𝓤 H} {d : Place} {f : Name} {xs : List Operand} {rest : Body} where
@@ -196,8 +214,10 @@ module _ {M : Type 1} {𝓤 : URA M} {H : Heap 𝓤} {A : Atoms 𝓤} {K : Type 
         → Seq K W (raw (Statement 𝓤 H A T c .pre (x, g)) ∷ Γ) (runs C Λ E (seq (call f xs d) rest) q)
     answered t fm T c known x g φ told os k =
         let R : RattleType = typeAt (T .signature .result) (x .0) in
+        let lives : Item 𝓤 = raw (alive 𝓤 H A (T .signature) (x .0) (x .1)) in
         calls-at t fm (Statement 𝓤 H A T c) known (x, g) os (λ u.
-        use1 W (later (some (λ (r : Res (T .signature) (x .0)). (raw (alive 𝓤 H A (T .signature) (x .0) (x .1)) ⊛ ‵ (R .own r (u ∷ []))) ⊛ raw (ensured 𝓤 H A T c (x .0) (x .3) g r)))) (id⊢ 𝓤 _) $
+        use1 W (later (some (λ (r : Res (T .signature) (x .0)). (lives ⊛ ‵ (R .own r (u ∷ []))) ⊛ raw (ensured 𝓤 H A T c (x .0) (x .3) g r)))) (id⊢ 𝓤 _) $
         await t tt $ pick t (λ r. split t $ move t (1 ∷ []) $
-        use1 W (raw (fact 𝓤 (φ r))) (exE 𝓤 _ (λ ws. via 𝓤 (c (x .0) (x .3) .ensures g r (atExit T (x .0) (x .3) ws)) (snd∗ 𝓤 (sem 𝓤 H A (lasts T (x .0) (x .3) ws)) _) (told r _))) $
+        use1 W (raw (fact 𝓤 (φ r)))
+        (exE 𝓤 _ (λ ws. via 𝓤 (c (x .0) (x .3) .ensures g r (atExit T (x .0) (x .3) ws)) (snd∗ 𝓤 (sem 𝓤 H A (lasts T (x .0) (x .3) ws)) _) (told r _))) $
         heard t (φ r) (λ e. split t $ move t (1 ∷ []) $ peeks t R (Is R) (shows 𝓤 H A R) r (u ∷ []) (λ is. k u r e is))))

@@ -1,6 +1,6 @@
--- The walk over bytes item by item, for any kind of items. `Turn` says where a loop stands: what the walk gives from here on, after these items, is what it gives of
--- all the bytes; each way out of a turn is a law. And bytes and items determine each other: items that are read stand there by their bytes, one behind the other,
--- and items whose bytes stand there, each judged fine in its turn, are read. A refusal has the place of its item, behind the bytes of those before it.
+-- Reading bytes item by item, for any kind of items. `Turn` says where a loop stands: what reading gives from here on, after these items, is what it gives of
+-- all the bytes; each way out of a turn is a law. And bytes and items determine each other: items that are read stand there by their bytes, one behind the
+-- other, and items whose bytes stand there, each fine by the check in its turn, are read. A refusal has its item's place, behind the items before it.
 use mathlib.Core.Path.{_≡_, refl, sym, ap, subst, _∙_}
 use mathlib.Core.List.{List, [], _∷_, _++_, append-assoc, append-nil}
 use mathlib.Core.Logic.{_⊎_, inl, inr, ⊎-elim, by-cases}
@@ -35,7 +35,7 @@ pub item-inside : (table : Table) (bytes : List ℕ) (at code i j k next : ℕ) 
 item-inside table bytes at code i j k next is =
     before-end table bytes at (λ h. let z : _≡_ {A = ℕ} 0 1 = cc in omega arith)
 
--- where the walk stands: at a place, behind these items, with turns enough for the bytes that are left
+-- where reading stands: at a place, behind these items, with turns enough for the bytes that are left
 pub record Turn {A : Type 0} (kind : Kind A) (bytes : List ℕ) (at : ℕ) (is : List A) : Type 0 where
   pub turns : ℕ
   pub enough : length bytes - at ≤ turns
@@ -98,7 +98,7 @@ abbrev pub Placed : ℕ → Outcome → Type 0
 Placed at fine = Unit {0}
 Placed at (bad r) = placeOf r ≡ at
 
--- each of these items is judged fine, wherever it stands, after those before it
+-- each of these items is fine by the check, wherever it stands, after those before it
 abbrev pub Passes : {A : Type 0} → Kind A → List A → List A → Type 0
 Passes kind before [] = Unit {0}
 Passes kind before (i ∷ is) = ((at : ℕ) → kind .check before at i ≡ fine) × Passes kind (before ++ i ∷ []) is
@@ -120,21 +120,23 @@ bytes-append own [] js = refl
 bytes-append own (i ∷ is) js = rw (bytes-append own is js, append-assoc)
 
 module _ {A : Type 0} (kind : Kind A) (own : A → List ℕ) where
-  module _ (P : List A → Type 0) (none : P []) (more : (is : List A) (at : ℕ) (i : A) → P is → kind .check is at i ≡ fine → P (is ++ i ∷ [])) (same : (code i j k : ℕ) → numbersOf (kind .table) code < noCode → itemBytes (kind .table) code i j k ≡ own (kind .make code i j k)) where
+  module _ (P : List A → Type 0) (none : P [])
+      (more : (is : List A) (at : ℕ) (i : A) → P is → kind .check is at i ≡ fine → P (is ++ i ∷ []))
+      (same : (code i j k : ℕ) → numbersOf (kind .table) code < noCode → itemBytes (kind .table) code i j k ≡ own (kind .make code i j k)) where
     module _ (bytes : List ℕ) (small : AllBytes bytes) where
       -- the items so far have the property, and their bytes are those before the place
       record So-far (at : ℕ) (is : List A) : Type 0 where
         holds : P is
         stands : Stands bytes 0 (bytesOfAll own is) at
 
-      -- at a place behind some items the reader refuses, or the judge does
+      -- at a place behind some items the reader refuses, or the check does
       record Stop (r : Refusal) : Type 0 where
         at : ℕ
         before : List A
         so-far : So-far at before
         why : (itemAt (kind .table) bytes at ≡ Read.Refused r) ⊎ ((i : A) × (kind .check before at i ≡ bad r))
 
-      -- how the walk comes out: at the end the bytes of the items so far are all the bytes
+      -- how reading comes out: at the end the bytes of the items so far are all the bytes
       abbrev Ends : AllRead A → Type 0
       Ends (items js) = P js × (bytes ≡ bytesOfAll own js)
       Ends (refused r) = Stop r
@@ -147,9 +149,9 @@ module _ {A : Type 0} (kind : Kind A) (own : A → List ℕ) where
       from zero at is s h = at-end at is s (omega arith)
       from (suc n) at is s h = read (from n) (itemAt (kind .table) bytes at) refl
         where
-          judged : (i : A) (rest : AllRead A) (v : Outcome) → kind .check is at i ≡ v → (v ≡ fine → Ends rest) → Ends (afterChecked v rest)
-          judged i rest fine e on = on refl
-          judged i rest (bad r) e on = record { at = at; before = is; so-far = s; why = inr (i, e) }
+          checked : (i : A) (rest : AllRead A) (v : Outcome) → kind .check is at i ≡ v → (v ≡ fine → Ends rest) → Ends (afterChecked v rest)
+          checked i rest fine e on = on refl
+          checked i rest (bad r) e on = record { at = at; before = is; so-far = s; why = inr (i, e) }
 
           read : ((next : ℕ) (js : List A) → So-far next js → length bytes - next ≤ n → Ends (inTurn kind n bytes next js))
               → (r : Read) → itemAt (kind .table) bytes at ≡ r
@@ -160,7 +162,7 @@ module _ {A : Type 0} (kind : Kind A) (own : A → List ℕ) where
               let (fits, stands) = item-back (kind .table) bytes at code i j k next small e in
               let all : Stands bytes 0 (bytesOfAll own (is ++ item ∷ [])) next =
               rw (bytes-append, append-nil) (joined bytes 0 (s .stands) (rw (same code i j k (fits .known)) at stands)) in
-              judged item _ (kind .check is at item) refl λ f.
+              checked item _ (kind .check is at item) refl λ f.
               on next (is ++ item ∷ []) (record { holds = more is at item (s .holds) f; stands = all })
               (omega (arith, forward (kind .table) bytes at code i j k next small (sym e)))
           read on Read.End e = at-end at is s (end-back (kind .table) bytes at e)
@@ -173,7 +175,7 @@ module _ {A : Type 0} (kind : Kind A) (own : A → List ℕ) where
           let start : Stands bytes 0 [] 0 = record { here = refl; behind = refl; inside = omega arith } in
           subst Ends (t .rest) (from (t .turns) 0 [] (record { holds = none; stands = start }) (t .enough))
 
-    -- the items that are read: one at least, with a property that each item judged fine keeps, and their bytes are all the bytes
+    -- the items that are read: one at least, with a property that each item that the check finds fine keeps, and their bytes are all the bytes
     pub all-back : (bytes : List ℕ) (is : List A) → AllBytes bytes → readAll kind bytes ≡ items is → P is × (bytes ≡ bytesOfAll own is) × (1 ≤ length is)
     unfolding bytesOfAll
     all-back [] is small e = absurd (let z : _≡_ {A = ℕ} 0 1 = cc (none-refused kind [] refl) in omega arith)
@@ -203,7 +205,7 @@ module _ {A : Type 0} (kind : Kind A) (own : A → List ℕ) where
   turns-suffice (i ∷ is) e =
       simp length-append (omega (arith, ap length (e .0 .same), turns-suffice is (e .1)))
 
-  -- what the judge alone gives of the items that stand ahead at a place, after those before them
+  -- what the check alone gives of the items that stand ahead at a place, after those before them
   abbrev pub checkedFrom : ℕ → List A → List A → AllRead A
   checkedFrom at before [] = items before
   checkedFrom at before (i ∷ is) = afterChecked (kind .check before at i) (checkedFrom (at + length (own i)) (before ++ i ∷ []) is)
@@ -221,12 +223,17 @@ module _ {A : Type 0} (kind : Kind A) (own : A → List ℕ) where
       let read = item-there (kind .table) bytes at (m .code) (m .first) (m .second) (m .third) (at + length (own i)) (m .fits) (rw (m .same) here) in
       rw (read, m .makes) (ap (afterChecked (kind .check is at i)) (ahead bytes n (at + length (own i)) (is ++ i ∷ []) js (omega arith) behind (e .1)))
 
-  -- so of the bytes of items there is what the judge gives of these
+  -- so of the bytes of items there is what the check gives of these
   pub all-checked : (is : List A) → 1 ≤ length is → Each (Numbered kind own) is → readAll kind (bytesOfAll own is) ≡ checkedFrom 0 [] is
   all-checked is some e =
       let bytes = bytesOfAll own is in
       let t = turn-first kind bytes (λ h. omega (arith, turns-suffice is e)) in
-      let s : Stands bytes 0 bytes (length bytes) = record { here = rw (drop-of-length-le bytes {i = length bytes} (omega arith), append-nil); behind = omega arith; inside = omega arith } in
+      let s : Stands bytes 0 bytes (length bytes) =
+      record {
+        here = rw (drop-of-length-le bytes {i = length bytes} (omega arith), append-nil);
+        behind = omega arith;
+        inside = omega arith;
+      } in
       sym (t .rest) ∙ ahead bytes (t .turns) 0 [] is (omega (arith, t .enough, turns-suffice is e)) s e
 
   -- items that pass stay

@@ -1,4 +1,5 @@
--- Laws of `numbersFrom` and `itemAt`. `ReadingNumbers` is where `read_numbers` stands: what it has read is in its array, and the rest, read from here on, makes the item.
+-- Laws of `numbersFrom` and `itemAt`. `ReadingNumbers` is where `read_numbers` stands: what it has read is in its array, and the rest, read from here on, makes
+-- the item.
 use mathlib.Core.Path.{_≡_, refl, sym, subst}
 use mathlib.Core.List.{List, [], _∷_, _++_}
 use mathlib.Core.Logic.{by-cases}
@@ -10,7 +11,7 @@ use borrow.Author.Tests.{le-leb, lt-leb, ne-eqb}
 use lib.ListN.{length, getD, set, replicate, length-append, drop-of-length-le}
 use lib.Seq.{drop-cons}
 use Rattle.ground.specs.Each.{Each}
-use Rattle.reading.specs.Items.{CodeRow, look, itemAt, numbersFrom, numbersOf, noCode, withNumber}
+use Rattle.reading.specs.Items.{mostNumbers, CodeRow, look, itemAt, numbersFrom, numbersOf, noCode, withNumber}
 use Rattle.reading.specs.Numbers.{numberAt}
 use Rattle.ground.specs.Padded.{padded}
 use Rattle.ground.specs.Refusals.{placeOf}
@@ -29,11 +30,11 @@ module _ (bytes : List ℕ) (at code count : ℕ) where
     pub read : List ℕ
     pub so-many : k ≡ length read
     pub within : k ≤ count
-    pub array : numbers ≡ padded 3 read
+    pub array : numbers ≡ padded mostNumbers read
     pub rest : numbersFrom (count - k) bytes at code read next ≡ numbersFrom count bytes at code [] (at + 1)
 
-  pub start : ReadingNumbers (replicate 3 0) (at + 1) 0
-  start = record { read = []; so-many = refl; within = omega arith; array = sym (padded-none 3); rest = rw sub-zero }
+  pub start : ReadingNumbers (replicate mostNumbers 0) (at + 1) 0
+  start = record { read = []; so-many = refl; within = omega arith; array = sym (padded-none mostNumbers); rest = rw sub-zero }
 
   module _ {numbers : List ℕ} {next k : ℕ} (r : ReadingNumbers numbers next k) where
     -- the item, once all numbers are read
@@ -55,7 +56,7 @@ module _ (bytes : List ℕ) (at code count : ℕ) where
             read = r .read ++ n ∷ [];
             so-many = simp length-append (omega (arith, r .so-many));
             within = omega arith;
-            array = rw (r .array, r .so-many, set-padded 3 (r .read) n (omega (arith, r .so-many)));
+            array = rw (r .array, r .so-many, set-padded mostNumbers (r .read) n (omega (arith, r .so-many)));
             rest = rw (one-more, ← e) at (r .rest);
           }
 

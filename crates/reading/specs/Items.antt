@@ -1,6 +1,7 @@
--- Items as bytes: a code byte and its numbers. Document 01: "Codes (hex): 10 true, 11 false, 12 k flag, 20 not, 21 and, 22 or, 30 a b until, 31 a b release,
--- 32 a b eventually, 33 a b globally", for code "01 ONE, 02 k FLAG, 03 i j NAND, 04 i j w REACH, 05 i d LATER", and "Items are judged in turn: 2, then 3 or 4
--- number by number". "One reader walks rules and code alike and always knows its place."
+-- Items as bytes: a code byte and its numbers. Document 01: "Codes (hex): 10 true, 11 false, 12 k flag, 20 not, 21 and,
+-- 22 or, 30 a b until, 31 a b release, 32 a b eventually, 33 a b globally", for code "01 ONE, 02 k FLAG, 03 i j NAND,
+-- 04 i j w REACH, 05 i d LATER", and "Items are judged in turn: 2, then 3 or 4 number by number". "One reader walks
+-- rules and code alike and always knows its place."
 use mathlib.Core.Bool.{cond}
 use mathlib.Core.List.{List, [], _∷_, _++_}
 use Prim.Native.Nat.{ℕ, zero, suc, _+_}
@@ -24,33 +25,41 @@ codeRow code numbers = record { code = code; numbers = numbers }
 -- The codes of rules
 unfoldable pub ruleCodes : List CodeRow
 ruleCodes =
-    codeRow 0x10 0 ∷ codeRow 0x11 0 ∷ codeRow 0x12 1 ∷ codeRow 0x20 0 ∷ codeRow 0x21 0 ∷ codeRow 0x22 0 ∷ codeRow 0x30 2 ∷ codeRow 0x31 2 ∷ codeRow 0x32 2 ∷ codeRow 0x33 2 ∷ []
+    codeRow 0x10 0 ∷ codeRow 0x11 0 ∷ codeRow 0x12 1
+    ∷ codeRow 0x20 0 ∷ codeRow 0x21 0 ∷ codeRow 0x22 0
+    ∷ codeRow 0x30 2 ∷ codeRow 0x31 2 ∷ codeRow 0x32 2 ∷ codeRow 0x33 2 ∷ []
 
 -- The codes of instructions
 unfoldable pub instructionCodes : List CodeRow
 instructionCodes = codeRow 0x01 0 ∷ codeRow 0x02 1 ∷ codeRow 0x03 2 ∷ codeRow 0x04 3 ∷ codeRow 0x05 2 ∷ []
 
+-- How many numbers an item has at most
+abbrev pub mostNumbers : ℕ
+mostNumbers = 3
+
 -- What stands for the number of numbers where a code byte is unknown: more than any item has
 abbrev pub noCode : ℕ
-noCode = 4
+noCode = mostNumbers + 1
 
 -- How many numbers follow a code byte
 unfoldable pub look : ℕ → List CodeRow → ℕ
 look code [] = noCode
-look code (codeRow ∷ rows) = cond (eqb code (codeRow .code)) (codeRow .numbers) (look code rows)
+look code (row ∷ rows) = cond (eqb code (row .code)) (row .numbers) (look code rows)
 
 -- The same by table: rules and code have separate ones
 abbrev pub numbersOf : Table → ℕ → ℕ
 numbersOf Table.Rule code = look code ruleCodes
 numbersOf Table.Code code = look code instructionCodes
 
--- A number of the item at `at`: what follows goes on with its value and the place behind it; 3 if the bytes end, 4 for a form that isn't allowed
+-- A number of the item at `at`: what follows goes on with its value and the place behind it; 3 if the bytes end, 4 for
+-- a form that isn't allowed
 abbrev pub withNumber : ℕ → Number → (ℕ → ℕ → Read) → Read
 withNumber at (Number.Value n next) more = more n next
 withNumber at Number.Short more = Read.Refused (Refusal.CutShort at)
 withNumber at Number.Long more = Read.Refused (Refusal.NotShortest at)
 
--- The item at `at` from the place `next` on, where so many numbers are still to come after those read: they are read in turn, and those that an item lacks are 0
+-- The item at `at` from the place `next` on, where so many numbers are still to come after those read: they are read in
+-- turn, and those that an item lacks are 0
 unfoldable pub numbersFrom : ℕ → List ℕ → ℕ → ℕ → List ℕ → ℕ → Read
 numbersFrom zero bytes at code read next = Read.Item code (getD read 0 0) (getD read 1 0) (getD read 2 0) next
 numbersFrom (suc more) bytes at code read next =

@@ -1,4 +1,5 @@
-// Items: a code byte and its numbers. `item_at` reads one at a place, by the table of rules or of code; `reader.rt` has the reader that walks them.
+// Items: a code byte and its numbers. `item_at` reads one at a place, by the table of rules or of code; `reader.rt` has
+// the reader that walks them.
 ghost use mathlib.Core.List.{[]};
 ghost use mathlib.Core.Path.{_≡_};
 ghost use Prim.Native.Nat.{_+_, _<_};
@@ -27,8 +28,10 @@ pub enum Read {
     Refused(Refusal),
 }
 
-// More numbers than an item has, where a code byte is unknown.
-const UNKNOWN: usize = 4;
+// How many numbers an item has at most, and one more, where a code byte is unknown.
+const MOST_NUMBERS: usize = 3;
+
+const UNKNOWN: usize = MOST_NUMBERS + 1;
 
 // How many numbers follow a code byte of a rule.
 fn rule_numbers(code: u8) -> usize
@@ -78,7 +81,7 @@ fn read_numbers(bytes: &[u8], at: usize, code: u8, count: usize) -> Read
     requires { ⌜ (at < length (now bytes)) × (count < noCode) ⌝ }
     ensures { λ r. ⌜ r ≡ numbersFrom count (now (bytes .entry)) at code [] (at + 1) ⌝ }
 {
-    let mut numbers = [0u16; 3];
+    let mut numbers = [0u16; MOST_NUMBERS];
     let mut next = at + 1;
     let mut k = 0;
     while k < count {

@@ -49,10 +49,11 @@ pub fn read_number(bytes: &[u8], at: usize) -> Number
     }
 }
 
-// Writes a number from a place on and answers the place behind it. A number above the greatest, or one that does not fit, is not written,
-// and the answer is the place itself.
+// Writes a number from a place on and answers the place behind it. A number above the greatest, or one that does not
+// fit, is not written, and the answer is the place itself.
 pub fn write_number(buffer: &mut [u8], at: usize, value: u16) -> usize
-    ensures { λ r. ⌜ (now (buffer .exit) ≡ written (now (buffer .entry)) at (numberBytes value)) × (r ≡ placeAfter (now (buffer .entry)) at (numberBytes value)) ⌝ }
+    ensures buffer { λ r. ⌜ now (buffer .exit) ≡ written (now (buffer .entry)) at (numberBytes value) ⌝ }
+    ensures place { λ r. ⌜ r ≡ placeAfter (now (buffer .entry)) at (numberBytes value) ⌝ }
 {
     if value < GROUP {
         if buffer.len() <= at {

@@ -1,5 +1,6 @@
-// The one reader that walks rules and code alike and always knows its place. `item` takes it apart and leaves the work to `item_at`, on the bytes and the place.
-// Above it, `read_item` has plain parameters: the loaders call it and keep the place as a number.
+// The one reader that walks rules and code alike and always knows its place. `item` takes it apart and leaves the work
+// to `item_at`, on the bytes and the place. Above it, `read_item` has plain parameters: the loaders call it and keep
+// the place as a number.
 ghost use mathlib.Core.Path.{_≡_};
 ghost use Rattle.reading.specs.Items.{itemAt};
 use crate::item::Read;

@@ -1,5 +1,5 @@
--- An accepted rule is within the limits, and is the list of items of exactly one formula. The items that are read stand there by their bytes, and each that is
--- judged fine keeps them good; at the end one value is left, whose items they are.
+-- An accepted rule is within the limits, and is the list of items of exactly one formula. The items that are read stand there by their bytes, and each that the
+-- check finds fine keeps them good; at the end one value is left, whose items they are.
 use mathlib.Core.Path.{_≡_, refl, sym, ap, _∙_}
 use mathlib.Core.List.{List, [], _∷_, _++_, append-assoc}
 use Prim.Native.Nat.{ℕ, _≤_}
@@ -9,10 +9,11 @@ use Rattle.ground.specs.Buffers.{AllBytes}
 use Rattle.reading.specs.InTurn.{Outcome, AllRead, readAll}
 use Rattle.ground.specs.declared.refusal.Refusal.{Refusal}
 use Rattle.reading.proofs.InTurn.{all-back}
-use Rattle.rules.specs.Accepted.{IsRule, mostRuleBytes}
+use Rattle.rules.specs.Accepted.{IsRule}
+use Rattle.ground.specs.Limits.{mostRuleBytes}
 use Rattle.rules.specs.Formula.{Formula, True, False, Flag, Not, And, Or, Until, Release, Eventually, Globally, horizon}
 use Rattle.rules.specs.Inner.Good.{GoodItems, postfixes}
-use Rattle.rules.specs.Items.{postfix, apply, bytesOfItem, ruleBytes}
+use Rattle.rules.specs.Items.{rowOfItem, postfix, apply, bytesOfItem, ruleBytes}
 use Rattle.rules.specs.Loading.{Items, Reading, accepted, refused, loadedOf, oneValue, atEnd, itemOutcome, ruleKind, checkItem, ruleCounts, stackFrom, stackOf, readRule}
 use Rattle.rules.specs.declared.item.Item.{Item}
 use Rattle.rules.specs.declared.check.CheckedItem.{CheckedItem}
@@ -48,7 +49,7 @@ one-formula f g e =
     let s : stackFrom [] (postfix f ++ []) ≡ stackFrom [] (postfix g ++ []) = ap (λ is. stackFrom [] (is ++ [])) e in
     cc
 
--- the end of a walk that is accepted: it gives the items, and these make the formula
+-- the end of a rule that is accepted: all its items are read, and these make the formula
 at-end : (n : ℕ) (w : AllRead Item) (is : Items) (f : Formula) → atEnd n w ≡ accepted is f → (w ≡ AllRead.items is) × (stackOf is ≡ f ∷ [])
 at-end n (AllRead.items js) is f e = go (stackOf js) refl e
   where
@@ -58,11 +59,11 @@ at-end n (AllRead.items js) is f e = go (stackOf js) refl e
     go (g ∷ h ∷ st) v e = differ e
 at-end n (AllRead.refused r) is f e = differ e
 
--- an item that is judged fine keeps the items good
+-- an item that the check finds fine keeps the items good
 pub good-on : (is : Items) (at : ℕ) (i : Item) → GoodItems is → ruleKind .check is at i ≡ Outcome.fine → GoodItems (is ++ i ∷ [])
-good-on is at i g e = go (checkItem (ruleCounts is) at i) refl e
+good-on is at i g e = go (checkItem (ruleCounts is) at (rowOfItem i)) refl e
   where
-    go : (d : CheckedItem) → checkItem (ruleCounts is) at i ≡ d → itemOutcome d ≡ Outcome.fine → GoodItems (is ++ i ∷ [])
+    go : (d : CheckedItem) → checkItem (ruleCounts is) at (rowOfItem i) ≡ d → itemOutcome d ≡ Outcome.fine → GoodItems (is ++ i ∷ [])
     go (CheckedItem.Next c) j e = good-more is i c g (fine (ruleCounts is) at i c j)
     go (CheckedItem.Refused r) j e = absurd (let z : _≡_ {A = ℕ} 0 1 = cc in omega arith)
 
@@ -72,7 +73,8 @@ unfolding ruleCounts
 good-short is g = omega (arith, rule-length is (g .ranges), g .within .items, g .within .timed)
 
 -- the items that are read are good, and their bytes are all the bytes
-pub items-read : (bytes : List ℕ) (is : Items) → AllBytes bytes → readAll ruleKind bytes ≡ AllRead.items is → GoodItems is × (bytes ≡ ruleBytes is) × (1 ≤ length is)
+pub items-read : (bytes : List ℕ) (is : Items) → AllBytes bytes → readAll ruleKind bytes ≡ AllRead.items is
+    → GoodItems is × (bytes ≡ ruleBytes is) × (1 ≤ length is)
 items-read = all-back ruleKind bytesOfItem GoodItems good-none good-on (λ code i j k known. item-bytes code known i j k)
 
 -- The rule that is accepted
@@ -95,7 +97,8 @@ accepted-rule bytes is f small e =
     }
 
 -- What an answer of loading tells of the rule that was read
-pub loaded-accepted : (read : Reading) (n h : ℕ) → Loaded.Accepted n h ≡ loadedOf read → (is : Items) × (f : Formula) × (read ≡ accepted is f) × (n ≡ length is) × (h ≡ horizon f)
+pub loaded-accepted : (read : Reading) (n h : ℕ) → Loaded.Accepted n h ≡ loadedOf read
+    → (is : Items) × (f : Formula) × (read ≡ accepted is f) × (n ≡ length is) × (h ≡ horizon f)
 loaded-accepted (accepted is f) n h e = (is, f, refl, cc, cc)
 loaded-accepted (refused r) n h e = absurd (let z : _≡_ {A = ℕ} 0 1 = cc in omega arith)
 

@@ -18,7 +18,7 @@ use Rattle.rules.specs.declared.check.CheckedItem.{CheckedItem}
 apart : {r : Refusal} {d : RuleCounts} → CheckedItem.Refused r ≡ CheckedItem.Next d → ⊥
 apart e = let z : _≡_ {A = ℕ} 0 1 = cc in omega arith
 
-pub fine : (c : RuleCounts) (at : ℕ) (i : Item) (d : RuleCounts) → checkItem c at i ≡ CheckedItem.Next d → FineItem c i d
+pub fine : (c : RuleCounts) (at : ℕ) (i : Item) (d : RuleCounts) → checkItem c at (rowOfItem i) ≡ CheckedItem.Next d → FineItem c i d
 unfolding checkItem badWindow ruleTooLarge
 fine c at i d e =
     let row = rowOfItem i in

@@ -1,5 +1,5 @@
--- Every formula whose items are within the limits is read from their bytes: as these are the items of a formula, each finds its operands among the values of those
--- before it, so none is refused in its turn.
+-- Every formula whose items are within the limits is read from their bytes: as these are the items of a formula, each finds its operands among the values of
+-- those before it, so none is refused in its turn.
 use mathlib.Core.Path.{_≡_, refl, ap, _∙_}
 use mathlib.Core.List.{List, [], _∷_, _++_, append-assoc, append-nil}
 use Prim.Native.Nat.{ℕ, _+_, _≤_, _<_}
@@ -9,7 +9,7 @@ use lib.ListN.{length, take, length-append}
 use Rattle.ground.specs.Each.{Each}
 use Rattle.ground.proofs.Each.{each-then}
 use Rattle.reading.specs.InTurn.{readAll}
-use Rattle.reading.specs.Items.{numbersOf, noCode, look, ruleCodes}
+use Rattle.reading.specs.Items.{mostNumbers, numbersOf, noCode, look, ruleCodes}
 use Rattle.ground.specs.Limits.{limits}
 use Rattle.ground.specs.Padded.{padded}
 use Rattle.reading.specs.declared.item.Table.{Table}
@@ -28,7 +28,8 @@ use Rattle.rules.proofs.Stack.{stack-more, timed-more, lower-more}
 
 -- the numbers behind an item's code byte, of which the item is made
 numbers : {i : Item} (x y : ℕ) → (numbersOf Table.Rule (rowOfItem i .code) < noCode) × (x ≤ limits .bound) × (y ≤ limits .bound)
-    → x ∷ y ∷ 0 ∷ [] ≡ padded 3 (take (numbersOf Table.Rule (rowOfItem i .code)) (x ∷ y ∷ 0 ∷ [])) → itemOf (rowOfItem i .code) x x y ≡ i → Numbered ruleKind bytesOfItem i
+    → x ∷ y ∷ 0 ∷ [] ≡ padded mostNumbers (take (numbersOf Table.Rule (rowOfItem i .code)) (x ∷ y ∷ 0 ∷ []))
+    → itemOf (rowOfItem i .code) x x y ≡ i → Numbered ruleKind bytesOfItem i
 numbers {i} x y small lacks makes =
     record {
       code = rowOfItem i .code;
@@ -54,7 +55,8 @@ numbered (Item.Eventually a b) r = numbers a b (omega arith) refl refl
 numbered (Item.Globally a b) r = numbers a b (omega arith) refl refl
 
 -- an item that passes each test is not refused
-passed : (c : RuleCounts) (at : ℕ) (i : Item) → FineItem c i (ruleCounted c (rowOfItem i)) → checkItem c at i ≡ CheckedItem.Next (ruleCounted c (rowOfItem i))
+passed : (c : RuleCounts) (at : ℕ) (i : Item) → FineItem c i (ruleCounted c (rowOfItem i))
+    → checkItem c at (rowOfItem i) ≡ CheckedItem.Next (ruleCounted c (rowOfItem i))
 unfolding checkItem badWindow ruleTooLarge
 passed c at i f = simp (le-ltb, f .ranges .flag, f .ranges .window, f .ranges .bound, f .operands, f .items, f .timed, f .lower)
 

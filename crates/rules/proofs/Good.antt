@@ -12,7 +12,7 @@ use Rattle.rules.specs.Accepted.{InRange}
 use Rattle.rules.specs.Inner.Good.{FineItem, GoodItems, postfixes}
 use Rattle.rules.specs.Items.{rowOfItem}
 use Rattle.rules.specs.Loading.{Items, stackFrom, stackOf, timedIn, lowerIn, ruleCounts, ruleCounted}
-use Rattle.rules.specs.Inner.Walk.{largestOf}
+use Rattle.rules.specs.Inner.Gathered.{largestOf}
 use Rattle.rules.specs.declared.item.Item.{Item}
 use Rattle.rules.specs.declared.check.RuleCounts.{RuleCounts}
 use Rattle.rules.proofs.Stack.{applied, counts-more, stack-more, timed-more}

@@ -1,4 +1,5 @@
--- What is known of a rule that was loaded. Its items are those that its columns were made of, as an item's numbers give it back; and where it is accepted, its bytes are a rule.
+-- What is known of a rule that was loaded. Its items are those that its columns were made of, as an item's numbers give it back; and where it is accepted, its
+-- bytes are a rule.
 use mathlib.Core.Path.{_≡_, refl, ap, _∙_}
 use mathlib.Core.List.{List, [], _∷_, map}
 use Prim.Native.Nat.{ℕ, zero, suc, _-_, _≤_, _<_}
@@ -73,7 +74,8 @@ pub record Accepts (bytes : List ℕ) (rule : Rule) (n : ℕ) : Type 0 where
   pub own : rule ≡ ruleOf (accepted items formula)
   pub many : n ≡ length items
 
-pub accepts : (bytes : List ℕ) (rule : Rule) (n h : ℕ) → AllBytes bytes → rule ≡ ruleOf (readRule bytes) → Loaded.Accepted n h ≡ rule .loaded → Accepts bytes rule n
+pub accepts : (bytes : List ℕ) (rule : Rule) (n h : ℕ) → AllBytes bytes → rule ≡ ruleOf (readRule bytes)
+    → Loaded.Accepted n h ≡ rule .loaded → Accepts bytes rule n
 unfolding ruleOf
 accepts bytes rule n h small own e =
     let (is, f, read, many, near) = loaded-accepted (readRule bytes) n h (e ∙ ap (λ r. r .loaded) own) in

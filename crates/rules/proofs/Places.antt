@@ -7,12 +7,11 @@ use lib.Dec.{ltb}
 use lib.ListN.{length}
 use Rattle.ground.specs.Buffers.{AllBytes}
 use Rattle.reading.specs.InTurn.{AllRead, readAll}
-use Rattle.ground.specs.Limits.{limits}
+use Rattle.ground.specs.Limits.{limits, mostRuleBytes}
 use Rattle.ground.specs.Refusals.{placeOf}
 use Rattle.ground.specs.declared.refusal.Refusal.{Refusal}
 use Rattle.ground.proofs.Choices.{both-ways}
 use Rattle.reading.proofs.InTurn.{Placed, all-place}
-use Rattle.rules.specs.Accepted.{mostRuleBytes}
 use Rattle.rules.specs.Formula.{Formula}
 use Rattle.rules.specs.Inner.Good.{GoodItems}
 use Rattle.rules.specs.Items.{rowOfItem, bytesOfItem}
@@ -23,7 +22,7 @@ use Rattle.rules.proofs.Accepted.{good-on, good-short, items-read}
 use Rattle.rules.proofs.Good.{good-none}
 use Rattle.rules.proofs.RuleBytes.{item-bytes}
 
--- each refusal by the judge has the item's place
+-- each refusal by the check has the item's place
 check-placed : (is : Items) (at : ℕ) (i : Item) → Placed at (ruleKind .check is at i)
 unfolding checkItem
 check-placed is at i =
@@ -49,4 +48,6 @@ rule-place bytes r small e = go (readAll ruleKind bytes) refl e
         rw (at-end (length bytes) r is (stackOf is) e, all) (good-short is g)
     go (AllRead.refused s) w e =
         let own : r ≡ s = cc in
-        rw own (all-place ruleKind bytesOfItem GoodItems good-none good-on (λ code i j k known. item-bytes code known i j k) mostRuleBytes good-short check-placed bytes s small w)
+        rw own
+        (all-place ruleKind bytesOfItem GoodItems good-none good-on (λ code i j k known. item-bytes code known i j k)
+        mostRuleBytes good-short check-placed bytes s small w)

@@ -1,5 +1,5 @@
--- The values of the first items of a formula. Each item finds its operands among the values of those before it and puts one value in their place; so at each place the items so far
--- are those of the values that they make, and there are no more values than items.
+-- The values of the first items of a formula. Each item finds its operands among the values of those before it and puts one value in their place; so at each
+-- place the items so far are those of the values that they make, and there are no more values than items.
 use mathlib.Core.Path.{_≡_, ap, _∙_}
 use mathlib.Core.List.{List, [], _∷_, _++_, append-assoc, append-nil}
 use Prim.Native.Nat.{ℕ, zero, suc, _+_, _≤_, _<_}
@@ -14,7 +14,8 @@ use Rattle.rules.proofs.Complete.{Enough, enough}
 use Rattle.rules.proofs.Stack.{applied}
 
 -- the operands of an item, and the items of the values before it, behind whatever values stand there
-there-from : (is : Items) (st : List Formula) (k : ℕ) → Enough st is → k < length is → rowOfItem (getD is k Item.True) .operands ≤ length (stackFrom st (take k is))
+there-from : (is : Items) (st : List Formula) (k : ℕ) → Enough st is → k < length is
+    → rowOfItem (getD is k Item.True) .operands ≤ length (stackFrom st (take k is))
 unfolding stackFrom
 there-from [] st k e h = absurd (omega arith)
 there-from (i ∷ is) st zero e h = e .0

@@ -1,16 +1,16 @@
--- Items and their bytes: the bytes that are read as an item are those of the item that they make, whichever of the ten codes it has; and items in range are short.
+-- Items and their bytes: the bytes that are read as an item are those of the item that they make, by each of the ten codes; and items in range are short.
 use mathlib.Core.Path.{_≡_, refl}
 use mathlib.Core.List.{[], _∷_, append-nil}
 use Prim.Native.Nat.{ℕ, _+_, _*_, _≤_, _<_}
 use native.Mathlib.Omega.{arith}
 use borrow.Author.Tests.{lt-ltb}
-use lib.ListN.{length, length-append}
+use lib.ListN.{length, drop, length-append}
 use Rattle.reading.specs.InTurn.{bytesOfAll}
 use Rattle.reading.specs.Items.{itemBytes, numbersOf, noCode, numbersBytes, look, ruleCodes}
 use Rattle.ground.specs.Limits.{limits}
 use Rattle.reading.proofs.Items.{by-row}
 use Rattle.reading.proofs.Numbers.{number-length}
-use Rattle.reading.specs.Numbers.{numberBytes}
+use Rattle.reading.specs.Numbers.{group, numberBytes}
 use Rattle.reading.specs.declared.item.Table.{Table}
 use Rattle.ground.specs.Each.{Each}
 use Rattle.rules.specs.Accepted.{InRange}
@@ -21,13 +21,16 @@ use Rattle.rules.specs.declared.item.Item.{Item}
 pub item-bytes : (code : ℕ) → numbersOf Table.Rule code < noCode → (i j k : ℕ) → itemBytes Table.Rule code i j k ≡ bytesOfItem (itemOf code i i j)
 unfolding itemBytes numbersBytes look ruleCodes bytesOfItem itemOf
 item-bytes =
-    by-row (λ code. (i j k : ℕ) → itemBytes Table.Rule code i j k ≡ bytesOfItem (itemOf code i i j)) ruleCodes
-    ((λ i j k. refl), ((λ i j k. refl), ((λ i j k. rw append-nil), ((λ i j k. refl), ((λ i j k. refl), ((λ i j k. refl), ((λ i j k. rw append-nil), ((λ i j k. rw append-nil), ((λ i j k. rw append-nil), ((λ i j k. rw append-nil), tt))))))))))
+    let P : ℕ → Type 0 = λ code. (i j k : ℕ) → itemBytes Table.Rule code i j k ≡ bytesOfItem (itemOf code i i j) in
+    let timed : Each (λ r. P (r .code)) (drop 6 ruleCodes) =
+    ((λ i j k. rw append-nil), ((λ i j k. rw append-nil), ((λ i j k. rw append-nil), ((λ i j k. rw append-nil), tt)))) in
+    by-row P ruleCodes
+    ((λ i j k. refl), ((λ i j k. refl), ((λ i j k. rw append-nil), ((λ i j k. refl), ((λ i j k. refl), ((λ i j k. refl), timed))))))
 
 -- a flag takes one byte
 flag-length : (n : ℕ) → n ≤ limits .flag → length (numberBytes n) ≡ 1
 unfolding numberBytes
-flag-length n h = rw (lt-ltb n 128 (omega arith))
+flag-length n h = rw (lt-ltb n group (omega arith))
 
 -- an item takes two bytes at most, a timed one three more
 item-length : (i : Item) → InRange i → length (bytesOfItem i) ≤ 2 + 3 * rowOfItem i .timed

@@ -12,6 +12,7 @@ use Rattle.rules.specs.Meaning.{holds, reaches, within}
 use Rattle.rules.specs.Samples.{LoadedRight, fromEach, samples}
 
 pub samples-right : Each LoadedRight samples
-unfolding samples fromEach readRule readAll inTurn itemAt numbersFrom look ruleCodes numberAt checkItem badWindow ruleTooLarge ruleCounts ruleCounted timedIn lowerIn stackFrom apply itemOf horizon holds reaches within hasFlag
+unfolding samples fromEach readRule readAll inTurn itemAt numbersFrom look ruleCodes numberAt checkItem badWindow ruleTooLarge ruleCounts ruleCounted
+    timedIn lowerIn stackFrom apply itemOf horizon holds reaches within hasFlag
 samples-right =
     (refl, (refl, (refl, (refl, (refl, (refl, (refl, (refl, (refl, (refl, (refl, (refl, (refl, (refl, (refl, (refl, (refl, (refl, (refl, tt)))))))))))))))))))

@@ -9,7 +9,7 @@ use Rattle.rules.specs.Formula.{Formula, horizon}
 use Rattle.rules.specs.Items.{rowOfItem, apply, postfix}
 use Rattle.rules.specs.Inner.Good.{postfixes}
 use Rattle.rules.specs.Loading.{Items, stackFrom, stackOf, timedIn, lowerIn, ruleCounts, ruleCounted}
-use Rattle.rules.specs.Inner.Walk.{largestOf}
+use Rattle.rules.specs.Inner.Gathered.{largestOf}
 use Rattle.rules.specs.declared.item.Item.{Item}
 
 -- one item more makes its value of the values before it

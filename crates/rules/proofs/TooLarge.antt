@@ -1,4 +1,5 @@
--- The bytes of a formula's items, each in range, are read as this formula, or they are refused as too large: each item finds its operands, so no other test refuses one.
+-- The bytes of a formula's items, each in range, are read as this formula, or they are refused as too large: each item finds its operands, so no other test
+-- refuses one.
 use mathlib.Core.Path.{_≡_, refl, ap, _∙_}
 use mathlib.Core.Bool.{cond}
 use mathlib.Core.List.{[], _∷_, _++_, append-assoc, append-nil}
@@ -24,9 +25,10 @@ use Rattle.rules.proofs.Accepted.{made}
 use Rattle.rules.proofs.Complete.{Enough, enough, numbered}
 use Rattle.rules.proofs.Stack.{stack-more}
 
--- an item in range with its operands is judged by the limits alone
+-- of an item in range with its operands the check tests the limits alone
 by-limits : (c : RuleCounts) (at : ℕ) (i : Item) → InRange i → rowOfItem i .operands ≤ c .depth
-    → checkItem c at i ≡ cond (ruleTooLarge (ruleCounted c (rowOfItem i))) (CheckedItem.Refused (Refusal.RuleTooLarge at)) (CheckedItem.Next (ruleCounted c (rowOfItem i)))
+    → let next = ruleCounted c (rowOfItem i) in
+    checkItem c at (rowOfItem i) ≡ cond (ruleTooLarge next) (CheckedItem.Refused (Refusal.RuleTooLarge at)) (CheckedItem.Next next)
 unfolding checkItem badWindow
 by-limits c at i r o = simp (le-ltb, r .flag, r .window, r .bound, o)
 

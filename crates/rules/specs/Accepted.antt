@@ -1,10 +1,10 @@
--- What holds of every accepted rule, for the layers above. Document 01: "At most 64 items, 16 of them timed, and the lower bounds a of all timed items add up to at
--- most 256. Bounds are 0 to 255 with a ≤ b."
+-- What holds of every accepted rule, for the layers above. Document 01: "At most 64 items, 16 of them timed, and the
+-- lower bounds a of all timed items add up to at most 256. Bounds are 0 to 255 with a ≤ b."
 use mathlib.Core.Path.{_≡_}
 use mathlib.Core.List.{List}
-use Prim.Native.Nat.{ℕ, _+_, _*_, _≤_}
+use Prim.Native.Nat.{ℕ, _≤_}
 use lib.ListN.{length}
-use Rattle.ground.specs.Limits.{limits}
+use Rattle.ground.specs.Limits.{limits, mostHorizon, mostRuleBytes}
 use Rattle.rules.specs.Formula.{Formula, horizon}
 use Rattle.ground.specs.Each.{Each}
 use Rattle.rules.specs.Items.{rowOfItem, postfix, ruleBytes}
@@ -16,14 +16,6 @@ pub record InRange (i : Item) : Type 0 where
   pub flag : rowOfItem i .flag ≤ limits .flag
   pub window : rowOfItem i .lower ≤ rowOfItem i .upper
   pub bound : rowOfItem i .upper ≤ limits .bound
-
--- The greatest horizon: 16 timed items, one within the other, that look 255 frames ahead each
-abbrev pub mostHorizon : ℕ
-mostHorizon = limits .bound * limits .timed
-
--- The most bytes that a rule can have: two for each item, and three more for each timed one
-abbrev pub mostRuleBytes : ℕ
-mostRuleBytes = 2 * limits .items + 3 * limits .timed
 
 -- The bytes, the items and the formula of an accepted rule
 pub record IsRule (bytes : List ℕ) (is : Items) (f : Formula) : Type 0 where

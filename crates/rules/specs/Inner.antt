@@ -1,3 +1,3 @@
 -- What only inner functions and proofs cite: a reader of the public statements needs none of it.
 pub mod Good
-pub mod Walk
+pub mod Gathered

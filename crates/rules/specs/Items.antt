@@ -1,5 +1,6 @@
--- The items of rules: their numbers, and the formulas that they make. Document 01: "A rule is a list of items, operands before operators; of two operands the
--- left comes first. Codes (hex): 10 true, 11 false, 12 k flag, 20 not, 21 and, 22 or, 30 a b until, 31 a b release, 32 a b eventually, 33 a b globally."
+-- The items of rules: their numbers, and the formulas that they make. Document 01: "A rule is a list of items, operands
+-- before operators; of two operands the left comes first. Codes (hex): 10 true, 11 false, 12 k flag, 20 not, 21 and, 22
+-- or, 30 a b until, 31 a b release, 32 a b eventually, 33 a b globally."
 use mathlib.Core.Bool.{cond}
 use mathlib.Core.List.{List, [], _∷_, _++_}
 use Prim.Native.Nat.{ℕ}
@@ -42,7 +43,8 @@ itemOf code flag lower upper =
     (cond (eqb code 0x31) (Release lower upper)
     (cond (eqb code 0x32) (Eventually lower upper) (Globally lower upper)))))))))
 
--- What an item does to the formulas read so far, the last one first: it takes its operands and puts the formula that it makes in their place
+-- What an item does to the formulas read so far, the last one first: it takes its operands and puts the formula that it
+-- makes in their place
 unfoldable pub apply : Item → List Formula → List Formula
 apply True st = Formula.True ∷ st
 apply False st = Formula.False ∷ st

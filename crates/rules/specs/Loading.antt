@@ -1,6 +1,7 @@
--- Reading a rule: the items in turn, each judged as it comes, and at the end one value. Document 01: "Items are judged in turn: 2, then 3 or 4 number by number,
--- then 5, 6, 7, 8 ..; 9 last, for rules only"; "At most 64 items, 16 of them timed, and the lower bounds a of all timed items add up to at most 256. Bounds are
--- 0 to 255 with a ≤ b." All that is judged of an item is a function of the items before it.
+-- Reading a rule: the items in turn, each checked as it comes, and at the end one value. Document 01: "Items are judged
+-- in turn: 2, then 3 or 4 number by number, then 5, 6, 7, 8 ..; 9 last, for rules only"; "At most 64 items, 16 of them
+-- timed, and the lower bounds a of all timed items add up to at most 256. Bounds are 0 to 255 with a ≤ b." What the
+-- check says of an item is a function of the items before it.
 use mathlib.Core.Bool.{Bool, cond, _||_}
 use mathlib.Core.List.{List, [], _∷_, map}
 use Prim.Native.Nat.{ℕ, _+_, _-_}
@@ -65,14 +66,14 @@ badWindow lower upper = ltb upper lower || ltb (limits .bound) upper
 unfoldable pub ruleTooLarge : RuleCounts → Bool
 ruleTooLarge c = ltb (limits .items) (c .items) || (ltb (limits .timed) (c .timed) || ltb (limits .lower) (c .lower))
 
--- The item at a place, after items that are counted: 5, 6, 7, 8 in turn
-unfoldable pub checkItem : RuleCounts → ℕ → Item → CheckedItem
-checkItem c at i =
-    let row = rowOfItem i in
+-- The item at a place, by its row, after items that are counted: 5, 6, 7, 8 in turn
+unfoldable pub checkItem : RuleCounts → ℕ → ItemRow → CheckedItem
+checkItem c at row =
     cond (ltb (limits .flag) (row .flag)) (CheckedItem.Refused (Refusal.FlagTooLarge at))
     (cond (badWindow (row .lower) (row .upper)) (CheckedItem.Refused (Refusal.BadWindow at))
     (cond (ltb (c .depth) (row .operands)) (CheckedItem.Refused (Refusal.TooFewOperands at))
-    (cond (ruleTooLarge (ruleCounted c row)) (CheckedItem.Refused (Refusal.RuleTooLarge at)) (CheckedItem.Next (ruleCounted c row)))))
+    (cond (ruleTooLarge (ruleCounted c row)) (CheckedItem.Refused (Refusal.RuleTooLarge at))
+    (CheckedItem.Next (ruleCounted c row)))))
 
 -- What reading a rule gives: its items and the formula that they make, or the refusal
 pub data Reading : Type 0 where
@@ -85,18 +86,18 @@ oneValue n is [] = refused (Refusal.NotOneValue n)
 oneValue n is (f ∷ []) = accepted is f
 oneValue n is (f ∷ g ∷ st) = refused (Refusal.NotOneValue n)
 
--- The verdict on an item that is judged
+-- What becomes of an item that is checked
 abbrev pub itemOutcome : CheckedItem → Outcome
 itemOutcome (CheckedItem.Next c) = Outcome.fine
 itemOutcome (CheckedItem.Refused r) = Outcome.bad r
 
--- Rules as a kind of items, judged by what is counted of the items before
+-- Rules as a kind of items, checked by what is counted of the items before
 abbrev pub ruleKind : Kind Item
 ruleKind =
     record {
       table = Table.Rule;
       make = λ code i j k. itemOf code i i j;
-      check = λ is at i. itemOutcome (checkItem (ruleCounts is) at i);
+      check = λ is at i. itemOutcome (checkItem (ruleCounts is) at (rowOfItem i));
     }
 
 -- The end of a rule of so many bytes: its items make one value, or they are refused; a refusal on the way stays

@@ -1,6 +1,7 @@
--- The meaning of a rule on a clip, twice: `Holds` as document 002, section 2, words it, and `holds`, a test that computes. `proofs/Agreement.antt` shows that the two agree.
--- A clip is the list of its frames, the earliest first; "the clip from i" is `drop i`. Document 01: "l until[a,b] r holds if n > a and some place p,
--- a ≤ p ≤ b, p < n, has r on the clip from i+p, and l holds on the clip from i+j for each j with a ≤ j < p."
+-- The meaning of a rule on a clip, twice: `Holds` as document 002, section 2, words it, and `holds`, a test that
+-- computes. `proofs/Agreement.antt` shows that the two agree. A clip is the list of its frames, the earliest first;
+-- "the clip from i" is `drop i`. Document 01: "l until[a,b] r holds if n > a and some place p, a ≤ p ≤ b, p < n, has r
+-- on the clip from i+p, and l holds on the clip from i+j for each j with a ≤ j < p."
 use mathlib.Core.Path.{_≡_}
 use mathlib.Core.Bool.{Bool, true, false, not, _&&_, _||_}
 use mathlib.Core.List.{[], _∷_}

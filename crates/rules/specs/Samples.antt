@@ -1,4 +1,5 @@
--- Document 01's samples that are marked to be proved, as far as they concern loading and meaning: one table, and what it is for a row to be right.
+-- Document 01's samples that are marked to be proved, as far as they concern loading and meaning: one table, and what
+-- it is for a row to be right.
 use mathlib.Core.Path.{_≡_}
 use mathlib.Core.Bool.{Bool, true, false}
 use mathlib.Core.List.{List, [], _∷_}
@@ -10,11 +11,12 @@ use Rattle.ground.specs.Frames.{Clip}
 use Rattle.rules.specs.Meaning.{holds}
 use Rattle.rules.specs.declared.load.Loaded.{Loaded}
 
--- A row: a rule and its items and horizon, a rule and its refusal, or a rule, a clip and for each frame whether the clip from it satisfies the rule
+-- A row: a rule and its items and horizon, a rule and its refusal, or a rule, a clip and for each frame whether the
+-- clip from it satisfies the rule
 pub data Sample : Type 0 where
   accepts : List ℕ → ℕ → ℕ → Sample
   refuses : List ℕ → Refusal → Sample
-  judges : List ℕ → Clip → List Bool → Sample
+  eachFrame : List ℕ → Clip → List Bool → Sample
 
 -- Whether a rule holds on the clip from each frame
 unfoldable pub fromEach : Formula → Clip → List Bool
@@ -30,7 +32,7 @@ verdictsRead (refused r) c = []
 abbrev pub LoadedRight : Sample → Type 0
 LoadedRight (accepts rule items horizon) = loadedOf (readRule rule) ≡ Loaded.Accepted items horizon
 LoadedRight (refuses rule refusal) = loadedOf (readRule rule) ≡ Loaded.Refused refusal
-LoadedRight (judges rule clip bits) = verdictsRead (readRule rule) clip ≡ bits
+LoadedRight (eachFrame rule clip bits) = verdictsRead (readRule rule) clip ≡ bits
 
 -- The table
 unfoldable pub samples : List Sample
@@ -50,8 +52,9 @@ samples =
     ∷ refuses (0x12 ∷ 0x00 ∷ 0x32 ∷ 0x00 ∷ 0x80 ∷ 0x02 ∷ []) (Refusal.BadWindow 2)
     ∷ refuses (0x21 ∷ []) (Refusal.TooFewOperands 0)
     ∷ refuses (0x10 ∷ 0x10 ∷ []) (Refusal.NotOneValue 2)
-    ∷ judges (0x12 ∷ 0x00 ∷ 0x12 ∷ 0x01 ∷ 0x30 ∷ 0x01 ∷ 0x03 ∷ []) (0x00 ∷ 0x01 ∷ 0x02 ∷ []) (true ∷ true ∷ false ∷ [])
-    ∷ judges (0x12 ∷ 0x00 ∷ 0x33 ∷ 0x02 ∷ 0x04 ∷ []) (0x00 ∷ []) (true ∷ [])
-    ∷ judges (0x10 ∷ 0x32 ∷ 0x01 ∷ 0x01 ∷ []) (0x00 ∷ 0x00 ∷ []) (true ∷ false ∷ [])
-    ∷ judges (0x12 ∷ 0x00 ∷ 0x32 ∷ 0x02 ∷ 0x04 ∷ []) (0x00 ∷ 0x00 ∷ 0x01 ∷ []) (true ∷ false ∷ false ∷ [])
+    ∷ eachFrame (0x12 ∷ 0x00 ∷ 0x12 ∷ 0x01 ∷ 0x30 ∷ 0x01 ∷ 0x03 ∷ []) (0x00 ∷ 0x01 ∷ 0x02 ∷ [])
+    (true ∷ true ∷ false ∷ [])
+    ∷ eachFrame (0x12 ∷ 0x00 ∷ 0x33 ∷ 0x02 ∷ 0x04 ∷ []) (0x00 ∷ []) (true ∷ [])
+    ∷ eachFrame (0x10 ∷ 0x32 ∷ 0x01 ∷ 0x01 ∷ []) (0x00 ∷ 0x00 ∷ []) (true ∷ false ∷ [])
+    ∷ eachFrame (0x12 ∷ 0x00 ∷ 0x32 ∷ 0x02 ∷ 0x04 ∷ []) (0x00 ∷ 0x00 ∷ 0x01 ∷ []) (true ∷ false ∷ false ∷ [])
     ∷ []

@@ -1,11 +1,9 @@
-// Judging an item of a rule: 5, 6, 7, 8 in turn.
+// The check of an item of a rule: 5, 6, 7, 8 in turn.
 ghost use mathlib.Core.Path.{_≡_};
 ghost use Prim.Native.Nat.{_≤_};
 ghost use Rattle.rules.specs.Inner.Good.{RuleWithin};
 ghost use Rattle.rules.specs.Loading.{badWindow, ruleTooLarge, ruleCounted, checkItem};
-use crate::item::Item;
 use crate::item::ItemRow;
-use crate::item::row_of;
 use ground::limits::MOST_BOUND;
 use ground::limits::MOST_FLAG;
 use ground::limits::MOST_ITEMS;
@@ -13,7 +11,7 @@ use ground::limits::MOST_LOWER;
 use ground::limits::MOST_TIMED;
 use ground::refusal::Refusal;
 
-// What is counted on the way: items, timed items, the sum of the lower bounds, values that stand and wait for an operator.
+// What is counted on the way: items, timed items, the sum of the lower bounds, values that wait for an operator.
 pub(crate) struct RuleCounts {
     pub items: usize,
     pub timed: usize,
@@ -64,12 +62,11 @@ fn counted(counts: RuleCounts, row: ItemRow) -> RuleCounts
     }
 }
 
-// Judges the item at a place, after items that are counted.
-pub(crate) fn check(counts: RuleCounts, at: usize, item: Item) -> CheckedItem
+// Checks the item at a place, after items that are counted.
+pub(crate) fn check(counts: RuleCounts, at: usize, row: ItemRow) -> CheckedItem
     requires { ⌜ RuleWithin counts ⌝ }
-    ensures { λ r. ⌜ r ≡ checkItem counts at item ⌝ }
+    ensures { λ r. ⌜ r ≡ checkItem counts at row ⌝ }
 {
-    let row = row_of(item);
     if MOST_FLAG < row.flag {
         return CheckedItem::Refused(Refusal::FlagTooLarge(at));
     }

@@ -1,11 +1,11 @@
-// Loading a rule: one walk over its bytes judges each item in turn and keeps what the layers above need of an accepted rule.
+// Loading a rule: each item in turn is read, checked, and kept by the numbers that the layers above need of it.
 ghost use mathlib.Core.Path.{_≡_};
 ghost use Rattle.rules.specs.Loading.{Items, stackOf, refused, oneValue, readRule, loadedOf, ruleOf};
-ghost use Rattle.rules.specs.Inner.Walk.{Follows, ruleWith};
+ghost use Rattle.rules.specs.Inner.Gathered.{Gathers, ruleWith};
 use crate::check::CheckedItem;
 use crate::check::check;
-use crate::item::item_of;
-use crate::walk::Walk;
+use crate::gather::Gathered;
+use crate::item::row_of_code;
 use ground::limits::MOST_ITEMS;
 use ground::refusal::Refusal;
 use reading::item::Read;
@@ -18,7 +18,8 @@ pub enum Loaded {
     Refused(Refusal),
 }
 
-// A rule that was loaded: the answer and, if it is accepted, its items in order by their numbers (those of `row_of`), with zeros behind.
+// A rule that was loaded: the answer and, if it is accepted, its items in order by their numbers (those of `row_of`),
+// with zeros behind.
 pub struct Rule {
     pub loaded: Loaded,
     pub codes: [u8; MOST_ITEMS],
@@ -27,14 +28,14 @@ pub struct Rule {
     pub uppers: [u16; MOST_ITEMS],
 }
 
-// What the walk found, with an answer.
-fn rule_with(walk: Walk, loaded: Loaded) -> Rule
-    ensures { λ r. ⌜ r ≡ ruleWith walk loaded ⌝ }
+// What is gathered, with an answer.
+fn rule_with(gathered: Gathered, loaded: Loaded) -> Rule
+    ensures { λ r. ⌜ r ≡ ruleWith gathered loaded ⌝ }
 {
-    let codes = walk.codes;
-    let flags = walk.flags;
-    let lowers = walk.lowers;
-    let uppers = walk.uppers;
+    let codes = gathered.codes;
+    let flags = gathered.flags;
+    let lowers = gathered.lowers;
+    let uppers = gathered.uppers;
     Rule {
         loaded,
         codes,
@@ -48,20 +49,20 @@ fn rule_with(walk: Walk, loaded: Loaded) -> Rule
 fn refused(refusal: Refusal) -> Rule
     ensures { λ r. ⌜ r ≡ ruleOf (refused refusal) ⌝ }
 {
-    rule_with(Walk::new(), Loaded::Refused(refusal))
+    rule_with(Gathered::new(), Loaded::Refused(refusal))
 }
 
 // The end of a rule of so many bytes.
-fn at_end(walk: Walk, bytes: usize) -> Rule
-    requires { ⌜ ((is : Items) × Follows walk is) ⌝ }
-    ensures { λ r. ⌜ ((is : Items) → Follows walk is → r ≡ ruleOf (oneValue bytes is (stackOf is))) ⌝ }
+fn at_end(gathered: Gathered, bytes: usize) -> Rule
+    requires { ⌜ ((is : Items) × Gathers gathered is) ⌝ }
+    ensures { λ r. ⌜ ((is : Items) → Gathers gathered is → r ≡ ruleOf (oneValue bytes is (stackOf is))) ⌝ }
 {
-    if walk.counts.depth != 1 {
+    if gathered.counts.depth != 1 {
         return refused(Refusal::NotOneValue(bytes));
     }
-    let horizon = walk.horizons[0] as usize;
-    let items = walk.counts.items;
-    rule_with(walk, Loaded::Accepted { items, horizon })
+    let horizon = gathered.horizons[0] as usize;
+    let items = gathered.counts.items;
+    rule_with(gathered, Loaded::Accepted { items, horizon })
 }
 
 // Loads a rule: its answer and its items.
@@ -71,7 +72,7 @@ pub fn decode(bytes: &[u8]) -> Rule
     if bytes.len() == 0 {
         return refused(Refusal::Empty);
     }
-    let mut walk = Walk::new();
+    let mut gathered = Gathered::new();
     let mut at = 0;
     loop {
         match read_item(Table::Rule, bytes, at) {
@@ -82,16 +83,16 @@ pub fn decode(bytes: &[u8]) -> Rule
                 third: _,
                 next,
             } => {
-                let item = item_of(code, first, first, second);
-                match check(walk.counts, at, item) {
+                let row = row_of_code(code, first, first, second);
+                match check(gathered.counts, at, row) {
                     CheckedItem::Next(counts) => {
-                        walk = walk.with(item, counts);
+                        gathered = gathered.with(row, counts);
                         at = next;
                     }
                     CheckedItem::Refused(refusal) => return refused(refusal),
                 }
             }
-            Read::End => return at_end(walk, bytes.len()),
+            Read::End => return at_end(gathered, bytes.len()),
             Read::Refused(refusal) => return refused(refusal),
         }
     }

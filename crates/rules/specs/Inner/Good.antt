@@ -1,5 +1,6 @@
--- What holds of the items of a rule that no test has refused so far, and so of every accepted rule: the limits of document 01, and that each formula's items stand
--- together, operands before operators. Contracts of inner functions cite it; `load` says nothing of it.
+-- What holds of the items of a rule that no test has refused so far, and so of every accepted rule: the limits of
+-- document 01, and that each formula's items stand together, operands before operators. Contracts of inner functions
+-- cite it; `load` says nothing of it.
 use mathlib.Core.Path.{_≡_}
 use mathlib.Core.List.{List, [], _∷_, _++_}
 use Prim.Native.Nat.{_*_, _≤_}
@@ -33,8 +34,8 @@ unfoldable pub postfixes : List Formula → Items
 postfixes [] = []
 postfixes (f ∷ st) = postfixes st ++ postfix f
 
--- Items that no test has refused: within the limits, each in range; a value's horizon is at most 255 for each timed item; and they are the items of the values
--- that they make
+-- Items that no test has refused: within the limits, each in range; a value's horizon is at most 255 for each timed
+-- item; and they are the items of the values that they make
 pub record GoodItems (is : Items) : Type 0 where
   pub within : RuleWithin (ruleCounts is)
   pub ranges : Each InRange is

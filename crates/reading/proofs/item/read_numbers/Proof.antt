@@ -38,21 +38,25 @@ loop-less c = search needs
 
 loop-again : tie.Need-loop-again Inv-loop μ-loop
 loop-again c =
-    more _ _ _ _ (c .before .before .before .before .before .loop .inv) (c .before .before .before .before .loop-test .taken) _ _ (c .before .before .before .before .before .before .before .pre .1) (sym (c .before .value .given .1) ∙ c .before .before .before .read-number .ensures)
+    let turn = c .before .before .before .before in
+    let e = sym (c .before .value .given .1) ∙ c .before .before .before .read-number .ensures in
+    more _ _ _ _ (turn .before .loop .inv) (turn .loop-test .taken) _ _ (turn .before .before .before .pre .1) e
 
 enum-told : tie.Need-enum-told Inv-loop μ-loop
 enum-told c = search needs
 
 returns : tie.Need-returns Inv-loop μ-loop
 returns c =
-    cut _ _ _ _ (c .before .before .before .before .loop .inv) (c .before .before .before .loop-test .taken) (sym (c .enum-told .given .1) ∙ c .before .before .read-number .ensures)
+    let turn = c .before .before .before in
+    cut _ _ _ _ (turn .before .loop .inv) (turn .loop-test .taken) (sym (c .enum-told .given .1) ∙ c .before .before .read-number .ensures)
 
 enum-told-2 : tie.Need-enum-told-2 Inv-loop μ-loop
 enum-told-2 c = search needs
 
 returns-2 : tie.Need-returns-2 Inv-loop μ-loop
 returns-2 c =
-    long _ _ _ _ (c .before .before .before .before .loop .inv) (c .before .before .before .loop-test .taken) (sym (c .enum-told2 .given .1) ∙ c .before .before .read-number .ensures)
+    let turn = c .before .before .before in
+    long _ _ _ _ (turn .before .loop .inv) (turn .loop-test .taken) (sym (c .enum-told2 .given .1) ∙ c .before .before .read-number .ensures)
 
 array-read-t19 : tie.Need-array-read-t19 Inv-loop μ-loop
 array-read-t19 c = search needs

@@ -3,6 +3,7 @@ use borrow.Author.Needs.{needs}
 use native.Mathlib.Omega.{arith}
 use borrow.Author.Tests.{eq-eqb, le-leb}
 use mathlib.Core.Bool.{or-true}
+use Rattle.reading.specs.Numbers.{group}
 use Rattle.reading.proofs.Numbers.{ended, one, cut, long, two}
 use Rattle.reading.proofs.number.read_number.Statement.{statement}
 use Rattle.reading.proofs.number.read_number.Tie as tie
@@ -33,11 +34,16 @@ wide-requires-2 c κs = search needs
 
 returns-4 : tie.Need-returns-4
 returns-4 c =
-    long _ _ _ (search needs) (c .before .before .before .before .before .wide .ensures .0) _ (c .before .before .before .before .if2 .left) (search needs) (c .before .wide2 .ensures .0) (rw (eq-eqb (c .before .wide2 .result) 0 (omega arith)))
+    let first = c .before .before .before .before in
+    long _ _ _ (search needs) (first .before .wide .ensures .0) _ (first .if2 .left) (search needs) (c .before .wide2 .ensures .0)
+    (rw (eq-eqb (c .before .wide2 .result) 0 (omega arith)))
 
 returns-5 : tie.Need-returns-5
 returns-5 c =
-    long _ _ _ (search needs) (c .before .before .before .before .before .before .wide .ensures .0) _ (c .before .before .before .before .before .if2 .left) (search needs) (c .before .before .wide2 .ensures .0) (rw (le-leb 128 (c .before .before .wide2 .result) (omega arith), or-true))
+    let first = c .before .before .before .before .before in
+    let second = c .before .before in
+    long _ _ _ (search needs) (first .before .wide .ensures .0) _ (first .if2 .left) (search needs) (second .wide2 .ensures .0)
+    (rw (le-leb group (second .wide2 .result) (omega arith), or-true))
 
 mul-t12 : tie.Need-mul-t12
 mul-t12 c = search needs
@@ -50,7 +56,9 @@ add-t6 c = search needs
 
 returns-6 : tie.Need-returns-6
 returns-6 c =
-    two _ _ _ (search needs) (c .before .before .before .before .before .before .wide .ensures .0) _ (c .before .before .before .before .before .if2 .left) (search needs) (c .before .before .wide2 .ensures .0) (omega arith) (omega arith)
+    let first = c .before .before .before .before .before in
+    let second = c .before .before in
+    two _ _ _ (search needs) (first .before .wide .ensures .0) _ (first .if2 .left) (search needs) (second .wide2 .ensures .0) (omega arith) (omega arith)
 
 pub read-number-spec : {M : Type 1} → statement M
 read-number-spec =

@@ -11,12 +11,9 @@ use borrow.Author.Needs.{needs}
 use Rattle.rules.proofs.check.check.Statement.{statement}
 use Rattle.rules.proofs.check.check.Tie as tie
 
-row-of-requires : tie.Need-row-of-requires
-row-of-requires c κs = search needs
-
 returns : tie.Need-returns
 unfolding checkItem
-returns c = rw (← (c .before .before .row-of .ensures), lt-ltb (limits .flag) (c .before .before .row-of .result .flag) (omega arith))
+returns c = rw (lt-ltb (limits .flag) (c .before .before .args .row .flag) (omega arith))
 
 bad-window-requires : tie.Need-bad-window-requires
 bad-window-requires c κs = search needs
@@ -24,14 +21,19 @@ bad-window-requires c κs = search needs
 returns-2 : tie.Need-returns-2
 unfolding checkItem
 returns-2 c =
-    rw (← (c .before .before .before .before .before .before .row-of .ensures), le-ltb (limits .flag) (c .before .before .before .before .before .before .row-of .result .flag) (omega arith), ← (c .before .before .before .bad-window .ensures), c .if2 .taken)
+    let a = c .before .before .before .before .before .before .args in
+    rw (
+      le-ltb (limits .flag) (a .row .flag) (omega arith),
+      ← (c .before .before .before .bad-window .ensures),
+      c .if2 .taken,
+    )
 
 returns-3 : tie.Need-returns-3
 unfolding checkItem
 returns-3 c =
+    let a = c .before .before .before .before .before .before .before .args in
     rw (
-      ← (c .before .before .before .before .before .before .before .row-of .ensures),
-      le-ltb (limits .flag) (c .before .before .before .before .before .before .before .row-of .result .flag) (omega arith),
+      le-ltb (limits .flag) (a .row .flag) (omega arith),
       ← (c .before .before .before .before .bad-window .ensures),
       c .before .if2 .left,
       c .if3 .taken,
@@ -45,16 +47,17 @@ too-large-requires c κs = search needs
 
 -- past the first three tests the last one decides
 settled : (c : tie.After-too-large) →
-    let a = c .before .before .before .before .before .before .before .before .before .before .args in
-    checkItem (a .counts) (a .at) (a .item)
+    let a = c .before .before .before .before .before .before .before .before .before .args in
+    checkItem (a .counts) (a .at) (a .row)
     ≡ cond (c .too-large .result) (CheckedItem.Refused (Refusal.RuleTooLarge (a .at))) (CheckedItem.Next (c .before .counted .result))
 unfolding checkItem
 settled c =
+    let tests = c .before .before .before in
+    let a = tests .before .before .before .before .before .before .args in
     rw (
-      ← (c .before .before .before .before .before .before .before .before .before .row-of .ensures),
-      le-ltb (limits .flag) (c .before .before .before .before .before .before .before .before .before .row-of .result .flag) (omega arith),
-      ← (c .before .before .before .before .before .before .bad-window .ensures),
-      c .before .before .before .if2 .left,
+      le-ltb (limits .flag) (a .row .flag) (omega arith),
+      ← (tests .before .before .before .bad-window .ensures),
+      tests .if2 .left,
       c .before .before .if3 .left,
       ← (c .before .counted .ensures),
       ← (c .too-large .ensures),
@@ -70,7 +73,6 @@ pub check-spec : {M : Type 1} → statement M
 check-spec =
     tie.close
     (tie.spec
-    row-of-requires
     returns
     bad-window-requires
     returns-2

@@ -1,7 +1,7 @@
 -- `at_end` meets its contract: exactly one value waits, or the rule is refused.
 use mathlib.Core.Path.{_∙_, ap}
 use Rattle.rules.specs.Loading.{ruleOf}
-use Rattle.rules.proofs.Walking.{found-not-one, found-one}
+use Rattle.rules.proofs.Gathering.{found-not-one, found-one}
 use borrow.Author.Needs.{needs}
 use Rattle.rules.proofs.load.at_end.Statement.{statement}
 use Rattle.rules.proofs.load.at_end.Tie as tie

@@ -15,10 +15,10 @@ use Rattle.rules.proofs.load.decode.Statement.{statement}
 use Rattle.rules.proofs.load.decode.Tie as tie
 
 abbrev Inv-loop : tie.InvT-loop
-Inv-loop bytes walk₀ at₀ walk at = RuleTurn bytes walk at
+Inv-loop bytes gathered₀ at₀ gathered at = RuleTurn bytes gathered at
 
 abbrev μ-loop : tie.MeasureT-loop
-μ-loop bytes walk₀ at₀ walk at = length bytes - at
+μ-loop bytes gathered₀ at₀ gathered at = length bytes - at
 
 refused-requires : tie.Need-refused-requires Inv-loop μ-loop
 refused-requires c κs = search needs
@@ -38,13 +38,13 @@ read-item-requires c κs = search needs
 enum-known-code : tie.Need-enum-known-code Inv-loop μ-loop
 enum-known-code c = search needs
 
-item-of-requires : tie.Need-item-of-requires Inv-loop μ-loop
-item-of-requires c κs = search needs
+row-of-code-requires : tie.Need-row-of-code-requires Inv-loop μ-loop
+row-of-code-requires c κs = search needs
 
 check-requires : tie.Need-check-requires Inv-loop μ-loop
 check-requires c κs =
     let t = c .before .before .before .before .before .loop .inv in
-    rw (t .follows .counts) (t .good .within)
+    rw (t .gathers .counts) (t .good .within)
 
 enum-known-counts : tie.Need-enum-known-counts Inv-loop μ-loop
 enum-known-counts c = search needs
@@ -52,29 +52,38 @@ enum-known-counts c = search needs
 -- the item that a turn reads is the definition's, and it leads on
 is-item : (c : tie.After-code Inv-loop μ-loop) →
     let p = c .code .given .0 in
+    let turn = c .before .before .before in
     Read.Item (p .0) (p .1 .0) (p .1 .1 .0) (p .1 .1 .1 .0) (p .1 .1 .1 .1 .0)
-    ≡ itemAt Table.Rule (c .before .before .before .before .before .before .before .args .bytes .now) (c .before .before .before .loop .at)
+    ≡ itemAt Table.Rule (turn .before .before .before .before .args .bytes .now) (turn .loop .at)
 is-item c = sym (c .code .given .1) ∙ c .before .before .read-item .ensures
 
 read-on : (c : tie.After-code Inv-loop μ-loop) → c .before .before .before .loop .at < c .code .given .0 .1 .1 .1 .1 .0
 read-on c =
-    let small : AllBytes (c .before .before .before .before .before .before .before .args .bytes .now) = λ i. omega (arith, c .before .before .before .before .before .before .shared-slice-known .given i) in
+    let start = c .before .before .before .before .before .before in
+    let small : AllBytes (start .before .args .bytes .now) = λ i. omega (arith, start .shared-slice-known .given i) in
     forward _ _ _ _ _ _ _ _ small (is-item c)
 
 with-requires : tie.Need-with-requires Inv-loop μ-loop
 with-requires c κs =
-    let t = c .before .before .before .before .before .before .before .before .before .loop .inv in
-    (t .items, turn-ready _ _ _ t _ _ _ (sym (c .before .counts .given .1) ∙ c .before .before .before .check .ensures))
+    let read = c .before .before .before .before .before .before in
+    let p = read .code .given .0 in
+    let t = read .before .before .before .loop .inv in
+    let row = c .before .before .before .before .row-of-code .ensures in
+    let e = sym (c .before .counts .given .1) ∙ c .before .before .before .check .ensures in
+    (t .items, _, turn-ready _ _ _ t _ (p .0) (p .1 .0) (p .1 .1 .0) row _ _ e)
 
 loop-less : tie.Need-loop-less Inv-loop μ-loop
-loop-less c = omega (arith, read-on (c .before .before .before .before .before .before .before), item-inside _ _ _ _ _ _ _ _ (is-item (c .before .before .before .before .before .before .before)))
+loop-less c =
+    let read = c .before .before .before .before .before .before .before in
+    omega (arith, read-on read, item-inside _ _ _ _ _ _ _ _ (is-item read))
 
 loop-again : tie.Need-loop-again Inv-loop μ-loop
 loop-again c =
-    let t = c .before .before .before .before .before .before .before .before .before .before .loop .inv in
+    let read = c .before .before .before .before .before .before .before in
+    let t = read .before .before .before .loop .inv in
+    let row = c .before .before .before .before .before .row-of-code .ensures in
     let e = sym (c .before .before .counts .given .1) ∙ c .before .before .before .before .check .ensures in
-    turn-more _ _ _ t _ _ _ _ _ (is-item (c .before .before .before .before .before .before .before)) _ (c .before .before .before .before .before .item-of .ensures) _ e _ (read-on (c .before .before .before .before .before .before .before))
-    (c .with .ensures (t .items) (turn-ready _ _ _ t _ _ _ e))
+    turn-more _ _ _ t _ _ _ _ row _ _ (is-item read) _ e _ (read-on read) (c .with .ensures (t .items) _ (turn-ready _ _ _ t _ _ _ _ row _ _ e))
 
 enum-known-refusal : tie.Need-enum-known-refusal Inv-loop μ-loop
 enum-known-refusal c = search needs
@@ -84,9 +93,11 @@ refused-requires-2 c κs = search needs
 
 returns-2 : tie.Need-returns-2 Inv-loop μ-loop
 returns-2 c =
+    let read = c .before .before .before .before .before .before .before in
+    let row = c .before .before .before .before .before .row-of-code .ensures in
     let e = sym (c .before .before .refusal .given .1) ∙ c .before .before .before .before .check .ensures in
     c .refused2 .ensures
-    ∙ ap ruleOf (turn-checked _ _ _ (c .before .before .before .before .before .before .before .before .before .before .loop .inv) _ _ _ _ _ (is-item (c .before .before .before .before .before .before .before)) _ (c .before .before .before .before .before .item-of .ensures) _ e)
+    ∙ ap ruleOf (turn-checked _ _ _ (read .before .before .before .loop .inv) _ _ _ _ row _ _ (is-item read) _ e)
 
 enum-told : tie.Need-enum-told Inv-loop μ-loop
 enum-told c = search needs
@@ -94,12 +105,12 @@ enum-told c = search needs
 at-end-requires : tie.Need-at-end-requires Inv-loop μ-loop
 at-end-requires c κs =
     let t = c .before .before .before .loop .inv in
-    (t .items, t .follows)
+    (t .items, t .gathers)
 
 returns-3 : tie.Need-returns-3 Inv-loop μ-loop
 returns-3 c =
     let t = c .before .before .before .before .loop .inv in
-    c .at-end .ensures (t .items) (t .follows)
+    c .at-end .ensures (t .items) (t .gathers)
     ∙ ap ruleOf (turn-end _ _ _ t (sym (c .before .enum-told .given .1) ∙ c .before .before .before .read-item .ensures))
 
 enum-known-refusal-2 : tie.Need-enum-known-refusal-2 Inv-loop μ-loop
@@ -110,8 +121,9 @@ refused-requires-3 c κs = search needs
 
 returns-4 : tie.Need-returns-4 Inv-loop μ-loop
 returns-4 c =
+    let e = sym (c .before .before .refusal2 .given .1) ∙ c .before .before .before .before .read-item .ensures in
     c .refused3 .ensures
-    ∙ ap ruleOf (turn-refused _ _ _ (c .before .before .before .before .before .loop .inv) _ (sym (c .before .before .refusal2 .given .1) ∙ c .before .before .before .before .read-item .ensures))
+    ∙ ap ruleOf (turn-refused _ _ _ (c .before .before .before .before .before .loop .inv) _ e)
 
 pub decode-spec : {M : Type 1} → statement M
 decode-spec =
@@ -125,7 +137,7 @@ decode-spec =
     loop-holds
     read-item-requires
     enum-known-code
-    item-of-requires
+    row-of-code-requires
     check-requires
     enum-known-counts
     with-requires

@@ -1,6 +1,6 @@
--- `refused` meets its contract: a walk that has read nothing keeps no item.
+-- `refused` meets its contract: where nothing is gathered no item is kept.
 use mathlib.Core.Path.{_∙_}
-use Rattle.rules.proofs.Walking.{found-refused}
+use Rattle.rules.proofs.Gathering.{found-refused}
 use borrow.Author.Needs.{needs}
 use Rattle.rules.proofs.load.refused.Statement.{statement}
 use Rattle.rules.proofs.load.refused.Tie as tie

@@ -1,6 +1,6 @@
 -- `rule_with` meets its contract: the fields are copied.
 use mathlib.Core.Path.{refl}
-use Rattle.rules.specs.Inner.Walk.{ruleWith}
+use Rattle.rules.specs.Inner.Gathered.{ruleWith}
 use Rattle.rules.proofs.load.rule_with.Statement.{statement}
 use Rattle.rules.proofs.load.rule_with.Tie as tie
 

@@ -1,5 +1,6 @@
--- `Reader::moved` meets its contract: a walk of its code, by hand. A reader is made anew of the bytes that the one passed holds, and the place. A reader is Copy: what it owns is had twice, one copy is kept whole for the exit,
--- and the other, with the facts of the new place for those of the old one, is what the result owns.
+-- `Reader::moved` meets its contract: a walk of its code, by hand. A reader is made anew of the bytes that the one passed holds, and the place. A reader is
+-- Copy: what it owns is had twice, one copy is kept whole for the exit, and the other, with the facts of the new place for those of the old one, is what the
+-- result owns.
 use mathlib.Core.Path.{refl}
 use mathlib.Core.List.{[], _∷_}
 use Prim.Native.Nat.{ℕ, _<_, _^_}
@@ -33,7 +34,8 @@ use Rattle.reading.proofs.reader.Reader.moved.Code as code
 use Rattle.reading.proofs.reader.Reader.moved.Key.{name}
 use Rattle.reading.proofs.reader.Reader.moved.Statement.{statement}
 
-module _ {M : Type 1} (𝓤 : URA M) (H : Heap 𝓤) (A : Atoms 𝓤) (W : Given 𝓤 H A) (mem : Memory → SProp 𝓤) (run : Routine → Fun 𝓤) (κ : Lft) (q : Share) (d : Reader) (n : ℕ) (fits : n < 2 ^ 64) where
+module _ {M : Type 1} (𝓤 : URA M) (H : Heap 𝓤) (A : Atoms 𝓤) (W : Given 𝓤 H A) (mem : Memory → SProp 𝓤) (run : Routine → Fun 𝓤) (κ : Lft) (q : Share)
+    (d : Reader) (n : ℕ) (fits : n < 2 ^ 64) where
   abbrev made : Reader
   made = record { bytes = d .bytes; at = n }
 
@@ -50,7 +52,8 @@ module _ {M : Type 1} (𝓤 : URA M) (H : Heap 𝓤) (A : Atoms 𝓤) (W : Given
   exits : ent 𝓤 Entry (Post (lowered made))
   exits =
       qed W (token κ q ∷ ‵ (owns (Row κ ∷ usize ∷ []) (d, (n, tt)) (bound .4)) ∷ []) ∵
-      suffices ! _ (ends-at 𝓤 H A moved.ended (stayed (self ∷ place ∷ [])) (moved.clauses 𝓤 H A mem run) W (bound, tt) (lowered made) made (tt, (tt, tt)) (tt, (tt, tt))) $
+      suffices ! _ (ends-at 𝓤 H A moved.ended (stayed (self ∷ place ∷ [])) (moved.clauses 𝓤 H A mem run) W (bound, tt)
+      (lowered made) made (tt, (tt, tt)) (tt, (tt, tt))) $
       says ! (refl, refl) $ frame ! $ fsplit ! $ twice ! (Row κ) (reader-copy W κ) d (lowered d) $ move ! (0 ∷ 2 ∷ []) $ fjoin ! $ frame ! $
       -- [what the reader owns]: the new place's facts for the old one's
       numbered ! n fits $ move ! (1 ∷ 0 ∷ []) $ by ! (own-put 𝓤 H A W (Fields κ) (laws κ) 1 (d .bytes, (d .at, tt)) n (lowered d))
@@ -63,8 +66,10 @@ module _ {M : Type 1} (𝓤 : URA M) (H : Heap 𝓤) (A : Atoms 𝓤) (W : Given
         -- [room for _3; …; room for _2; …; room for _1; …; room for _0; …; the parameters]
         alloc1 ! (λ l₀. alloc1 ! (λ l₁. alloc1 ! (λ l₂. alloc1 ! (λ l₃. alloc0 ! $ params1 ! $
         pass1 ! (init ! 4 refl (reader-lawful W (named 0) κ .typed d _ is .0)) $ pass1 ! (init ! 2 refl (tt, record { fits = fits })) $ pass0 ! $
-        assigns ! (of-opd ! (load ! (from ! (fld ! refl (stop !))) (look-in ! 4 (sub ! 0 refl (whole !))))) (from ! (stop !)) (init ! 0 refl (tt, reader-lawful W (named 0) κ .typed d _ is .0 .1 .0)) $
-        assigns ! (agg ! (and-then ! (load ! (from ! (stop !)) (look ! 0 refl)) (and-then ! (load ! (from ! (stop !)) (look ! 2 refl)) (no-more !)))) (from ! (stop !))
+        assigns ! (of-opd ! (load ! (from ! (fld ! refl (stop !))) (look-in ! 4 (sub ! 0 refl (whole !))))) (from ! (stop !))
+        (init ! 0 refl (tt, reader-lawful W (named 0) κ .typed d _ is .0 .1 .0)) $
+        assigns ! (agg ! (and-then ! (load ! (from ! (stop !)) (look ! 0 refl)) (and-then ! (load ! (from ! (stop !)) (look ! 2 refl)) (no-more !))))
+        (from ! (stop !))
         (init ! 6 refl (tt, (reader-lawful W (named 0) κ .typed d _ is .0 .1 .0, (record { fits = fits }, tt)))) $
         returns ! (look ! 6 refl) $ forget ! 0 refl $ forget ! 2 refl $ forget ! 4 refl $ forget ! 6 refl $
         move ! (6 ∷ 7 ∷ []) $ free1 ! $ move ! (4 ∷ 5 ∷ []) $ free1 ! $ move ! (2 ∷ 3 ∷ []) $ free1 ! $ free1 ! $ free0 ! $ by ! exits))))
@@ -72,5 +77,7 @@ module _ {M : Type 1} (𝓤 : URA M) (H : Heap 𝓤) (A : Atoms 𝓤) (W : Given
 pub moved-spec : {M : Type 1} → statement M
 unfolding code.routine
 moved-spec 𝓤 H 𝓜 𝓖 𝓡 =
-    raised (self ∷ place ∷ []) (plain (λ κs. Row (κs .0))) 𝓤 H 𝓜 𝓖 𝓡 (moved.clauses 𝓤 H (𝓖 .A) (𝓜 .mem) (𝓡 .run)) code.env name code.function (code.unfolded 𝓤 H 𝓜 𝓡) (λ κs qs bounds a g are.
-    walk 𝓤 H (𝓖 .A) (givenOf 𝓤 H 𝓜 𝓖) (𝓜 .mem) (𝓡 .run) (κs .0) (qs .0) (a .0) (a .1 .0) (are .1 .0 .1) (tables 𝓤 H 𝓜 𝓡 code.env .C) (tables 𝓤 H 𝓜 𝓡 code.env .Λ) (are .0))
+    raised (self ∷ place ∷ []) (plain (λ κs. Row (κs .0))) 𝓤 H 𝓜 𝓖 𝓡 (moved.clauses 𝓤 H (𝓖 .A) (𝓜 .mem) (𝓡 .run)) code.env name code.function
+    (code.unfolded 𝓤 H 𝓜 𝓡) (λ κs qs bounds a g are.
+    walk 𝓤 H (𝓖 .A) (givenOf 𝓤 H 𝓜 𝓖) (𝓜 .mem) (𝓡 .run) (κs .0) (qs .0) (a .0) (a .1 .0) (are .1 .0 .1) (tables 𝓤 H 𝓜 𝓡 code.env .C)
+    (tables 𝓤 H 𝓜 𝓡 code.env .Λ) (are .0))

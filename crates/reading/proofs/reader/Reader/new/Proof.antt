@@ -1,5 +1,5 @@
--- `Reader::new` meets its contract: a walk of its code, by hand. A reader is made of the bytes passed and 0, in the result's local. Lent bytes are Copy: what they own is had twice, once for the parameter at exit and once inside
--- the result, beside the facts of the place.
+-- `Reader::new` meets its contract: a walk of its code, by hand. A reader is made of the bytes passed and 0, in the result's local. Lent bytes are Copy: what
+-- they own is had twice, once for the parameter at exit and once inside the result, beside the facts of the place.
 use mathlib.Core.Path.{refl}
 use mathlib.Core.List.{List, [], _∷_}
 use Prim.Native.Nat.{ℕ}
@@ -34,7 +34,8 @@ use Rattle.reading.proofs.reader.Reader.new.Code as code
 use Rattle.reading.proofs.reader.Reader.new.Key.{name}
 use Rattle.reading.proofs.reader.Reader.new.Statement.{statement}
 
-module _ {M : Type 1} (𝓤 : URA M) (H : Heap 𝓤) (A : Atoms 𝓤) (W : Given 𝓤 H A) (mem : Memory → SProp 𝓤) (run : Routine → Fun 𝓤) (κ : Lft) (q : Share) (s : RefT (List ℕ)) where
+module _ {M : Type 1} (𝓤 : URA M) (H : Heap 𝓤) (A : Atoms 𝓤) (W : Given 𝓤 H A) (mem : Memory → SProp 𝓤) (run : Routine → Fun 𝓤) (κ : Lft) (q : Share)
+    (s : RefT (List ℕ)) where
   -- the machine value of the bytes
   abbrev v : Val
   v = lent-value s
@@ -67,11 +68,13 @@ module _ {M : Type 1} (𝓤 : URA M) (H : Heap 𝓤) (A : Atoms 𝓤) (W : Given
         qed W (raw Entry ∷ []) ∵ enter ! C Λ code.function (v ∷ []) _ $
         -- [room for _1; …; room for _0; …; the parameters]
         alloc1 ! (λ l₀. alloc1 ! (λ l₁. alloc0 ! $ params1 ! $ pass1 ! (init ! 0 refl (lent-lawful W κ .typed s _ is .0)) $ pass0 ! $
-        assigns ! (agg ! (and-then ! (load ! (from ! (stop !)) (look ! 0 refl)) (and-then ! (lit ! tt) (no-more !)))) (from ! (stop !)) (init ! 2 refl (tt, (lent-lawful W κ .typed s _ is .0 .1, (record { fits = lit< tt }, tt)))) $
+        assigns ! (agg ! (and-then ! (load ! (from ! (stop !)) (look ! 0 refl)) (and-then ! (lit ! tt) (no-more !)))) (from ! (stop !))
+        (init ! 2 refl (tt, (lent-lawful W κ .typed s _ is .0 .1, (record { fits = lit< tt }, tt)))) $
         returns ! (look ! 2 refl) $ forget ! 0 refl $ forget ! 2 refl $ move ! (2 ∷ 3 ∷ []) $ free1 ! $ free1 ! $ free0 ! $ by ! exits))
 
 pub new-spec : {M : Type 1} → statement M
 unfolding code.routine
 new-spec 𝓤 H 𝓜 𝓖 𝓡 =
-    raised (lent ∷ []) (plain (λ κs. Row (κs .0))) 𝓤 H 𝓜 𝓖 𝓡 (new.clauses 𝓤 H (𝓖 .A) (𝓜 .mem) (𝓡 .run)) code.env name code.function (code.unfolded 𝓤 H 𝓜 𝓡) (λ κs qs bounds a g are.
+    raised (lent ∷ []) (plain (λ κs. Row (κs .0))) 𝓤 H 𝓜 𝓖 𝓡 (new.clauses 𝓤 H (𝓖 .A) (𝓜 .mem) (𝓡 .run)) code.env name code.function (code.unfolded 𝓤 H 𝓜 𝓡)
+    (λ κs qs bounds a g are.
     walk 𝓤 H (𝓖 .A) (givenOf 𝓤 H 𝓜 𝓖) (𝓜 .mem) (𝓡 .run) (κs .0) (qs .0) (a .0) (tables 𝓤 H 𝓜 𝓡 code.env .C) (tables 𝓤 H 𝓜 𝓡 code.env .Λ) (are .0))

@@ -1,11 +1,11 @@
 -- `largest` meets its contract: the last values stand last in the array, and the larger of two is returned.
 use native.Mathlib.Omega.{arith}
 use mathlib.Core.Path.{_≡_}
-use Rattle.rules.specs.Inner.Walk.{largestOf}
-use Rattle.rules.proofs.Walking.{largest-one, largest-two}
+use Rattle.rules.specs.Inner.Gathered.{largestOf}
+use Rattle.rules.proofs.Gathering.{largest-one, largest-two}
 use borrow.Author.Needs.{needs}
-use Rattle.rules.proofs.walk.largest.Statement.{statement}
-use Rattle.rules.proofs.walk.largest.Tie as tie
+use Rattle.rules.proofs.gather.largest.Statement.{statement}
+use Rattle.rules.proofs.gather.largest.Tie as tie
 
 returns : tie.Need-returns
 unfolding largestOf

@@ -1,18 +1,20 @@
-// The walk over a rule: what it has read, item by item.
+// What is gathered of a rule, item by item.
 ghost use mathlib.Core.List.{List, [], _∷_, _++_};
 ghost use mathlib.Core.Path.{_≡_};
 ghost use Prim.Native.Nat.{ℕ, _≤_};
 ghost use lib.ListN.{length, take};
 ghost use Rattle.ground.specs.Limits.{limits};
+ghost use Rattle.ground.specs.Stacked.{Stacked};
 ghost use Rattle.rules.specs.Loading.{Items};
-ghost use Rattle.rules.specs.Inner.Walk.{Stacked, largestOf, Follows, OneMore};
+ghost use Rattle.rules.specs.Inner.Gathered.{largestOf, Gathers, OneMore};
+ghost use Rattle.rules.specs.declared.item.Item.{Item};
 use crate::check::RuleCounts;
-use crate::item::Item;
-use crate::item::row_of;
+use crate::item::ItemRow;
 use ground::limits::MOST_ITEMS;
 
-// Where the walk over a rule stands: what it counts, the horizons of the values that wait, and the items read.
-pub(crate) struct Walk {
+// What is gathered of the items read so far: their counts, the horizons of the values that wait for an operator, and
+// the items by their numbers.
+pub(crate) struct Gathered {
     pub counts: RuleCounts,
     pub horizons: [u16; MOST_ITEMS],
     pub codes: [u8; MOST_ITEMS],
@@ -40,12 +42,12 @@ fn largest(horizons: [u16; MOST_ITEMS], depth: usize, operands: usize) -> u16
     last
 }
 
-impl Walk {
+impl Gathered {
     // No item is read yet.
-    pub(crate) fn new() -> Walk
-        ensures { λ r. ⌜ Follows r [] ⌝ }
+    pub(crate) fn new() -> Gathered
+        ensures { λ r. ⌜ Gathers r [] ⌝ }
     {
-        Walk {
+        Gathered {
             counts: RuleCounts {
                 items: 0,
                 timed: 0,
@@ -60,23 +62,23 @@ impl Walk {
         }
     }
 
-    // One item more, which is judged and counted.
-    pub(crate) fn with(mut self, item: Item, counts: RuleCounts) -> Walk
-        requires { ⌜ ((is : Items) × OneMore self item counts is) ⌝ }
-        ensures { λ r. ⌜ ((is : Items) → OneMore self item counts is → Follows r (is ++ item ∷ [])) ⌝ }
+    // One item more, which is checked and counted.
+    pub(crate) fn with(mut self, row: ItemRow, counts: RuleCounts) -> Gathered
+        requires { ⌜ ((is : Items) × (i : Item) × OneMore self row counts is i) ⌝ }
+        ensures { λ r. ⌜ ((is : Items) → (i : Item) → OneMore self row counts is i → Gathers r (is ++ i ∷ [])) ⌝ }
     {
-        let row = row_of(item);
         let place = self.counts.items;
         let depth = self.counts.depth;
         let operands = row.operands;
+        let upper = row.upper;
         let horizons = self.horizons;
         let reach = largest(horizons, depth, operands);
         let bottom = depth - operands;
-        self.horizons[bottom] = row.upper + reach;
+        self.horizons[bottom] = upper + reach;
         self.codes[place] = row.code;
         self.flags[place] = row.flag;
         self.lowers[place] = row.lower;
-        self.uppers[place] = row.upper;
+        self.uppers[place] = upper;
         self.counts = counts;
         self
     }
