@@ -1,5 +1,5 @@
--- Judging an instruction by its row is judging it by document 01's words, test by test; and an instruction that is not refused has passed each test, as of the choices in turn
--- between a refusal and the rest none took the refusal, and one that passes each test is not refused.
+-- Checking an instruction by its row is checking it by document 01's words, test by test; and an instruction that is not refused has passed each test, as of
+-- the choices in turn between a refusal and the rest none took the refusal, and one that passes each test is not refused.
 use mathlib.Core.Path.{_≡_, refl, sym, _∙_}
 use mathlib.Core.Bool.{false, _||_, or-false}
 use mathlib.Core.List.{_∷_, [], _++_}
@@ -99,8 +99,14 @@ counts-more : (is : Code) (i : Instruction) → codeCounted (codeCounts is) i �
 unfolding codeCounted codeCounts
 counts-more is i = simp (length-append, reaches-more, distance-more)
 
--- an instruction that is judged and not refused is fine, and with it the counts are within the limits
-pub passed : (is : Code) (at : ℕ) (i : Instruction) (d : CodeCounts) → checkRow (codeCounts is) at (rowOfInstruction i) ≡ CheckedInstruction.Next d → FineInstruction is i × CodeWithin d × (d ≡ codeCounts (is ++ i ∷ []))
+-- an instruction that is checked and not refused is fine, and with it the counts are within the limits
+pub record Passed (is : Code) (i : Instruction) (d : CodeCounts) : Type 0 where
+  pub fine : FineInstruction is i
+  pub within : CodeWithin d
+  pub counted : d ≡ codeCounts (is ++ i ∷ [])
+
+pub passed : (is : Code) (at : ℕ) (i : Instruction) (d : CodeCounts) → checkRow (codeCounts is) at (rowOfInstruction i) ≡ CheckedInstruction.Next d
+    → Passed is i d
 unfolding checkRow badRow codeTooLarge codeCounts codeCounted
 passed is at i d e =
     let row = rowOfInstruction i in
@@ -113,8 +119,9 @@ passed is at i d e =
     let (wide, distances) = neither (ltb (limits .width) (row .width)) _ width in
     let (some, far) = neither (ltb (row .distance) (row .later)) (ltb (limits .distance) (row .distance)) distances in
     let (many, others) = neither (ltb (limits .instructions) (next .instructions)) _ large in
-    let (reaches, distance) = neither (ltb (limits .counters) (next .reaches)) (ltb (limits .delays) (next .distance)) others in (
-      record {
+    let (reaches, distance) = neither (ltb (limits .counters) (next .reaches)) (ltb (limits .delays) (next .distance)) others in
+    record {
+      fine = record {
         flag = ltb-false _ _ flag;
         earlier = ltb-false _ _ earlier;
         width = ltb-false _ _ wide;
@@ -123,13 +130,14 @@ passed is at i d e =
         instructions = ltb-false _ _ many;
         counters = ltb-false _ _ reaches;
         delays = ltb-false _ _ distance;
-      },
-      rw own (record { instructions = ltb-false _ _ many; reaches = ltb-false _ _ reaches; distance = ltb-false _ _ distance }),
-      rw own (counts-more is i),
-    )
+      };
+      within = rw own (record { instructions = ltb-false _ _ many; reaches = ltb-false _ _ reaches; distance = ltb-false _ _ distance });
+      counted = rw own (counts-more is i);
+    }
 
 -- and one that is fine is not refused
-pub not-refused : (is : Code) (at : ℕ) (i : Instruction) → FineInstruction is i → checkInstruction (codeCounts is) at i ≡ CheckedInstruction.Next (codeCounted (codeCounts is) i)
+pub not-refused : (is : Code) (at : ℕ) (i : Instruction) → FineInstruction is i
+    → checkInstruction (codeCounts is) at i ≡ CheckedInstruction.Next (codeCounted (codeCounts is) i)
 unfolding checkRow badRow codeTooLarge codeCounts codeCounted
 not-refused is at i f =
     let next = codeCounted (codeCounts is) i in

@@ -1,4 +1,5 @@
--- Good code is read from its bytes: each instruction is fine after those before it, so none is refused in its turn, and its numbers are small enough to be read.
+-- Good code is read from its bytes: each instruction is fine after those before it, so none is refused in its turn, and its numbers are small enough to be
+-- read.
 use mathlib.Core.Path.{_≡_, refl, ap, _∙_}
 use mathlib.Core.List.{[], _∷_, _++_, append-assoc}
 use Prim.Native.Nat.{ℕ, _≤_, _<_}

@@ -1,5 +1,5 @@
--- What is counted of code. Counts add up instruction by instruction, and the last instruction of code that no test refuses was counted with all before it, so what holds there
--- of the counts holds of all the code.
+-- What is counted of code. Counts add up instruction by instruction, and the last instruction of code that no test refuses was counted with all before it, so
+-- what holds there of the counts holds of all the code.
 use mathlib.Core.Path.{_≡_, refl}
 use mathlib.Core.List.{[], _∷_, _++_}
 use mathlib.Core.Logic.{by-cases}
@@ -8,12 +8,11 @@ use native.Mathlib.Decide.{decLt}
 use native.Mathlib.Omega.{arith}
 use lib.ListN.{length, getD, take, length-append, List·getD-append}
 use lib.Seq.{take-suc, take-all, take-append-le, take-append-seam, getD-append-seam}
-use Rattle.ground.specs.Each.{Each}
 use Rattle.ground.specs.Limits.{limits}
 use Rattle.code.specs.Code.{Instruction, One, Code}
 use Rattle.code.specs.Loading.{reachOf, distanceOf, reachesIn, distanceIn, codeCounts}
 use Rattle.code.specs.Inner.Rows.{rowOfInstruction}
-use Rattle.code.specs.Good.{CodeWithin, FineInstruction, GoodCode}
+use Rattle.code.specs.Good.{CodeWithin, FineInstruction, GoodCode, HasLines}
 
 pub reaches-append : (is js : Code) → reachesIn (is ++ js) ≡ reachesIn is + reachesIn js
 unfolding reachesIn
@@ -65,10 +64,10 @@ pub good-delays : (code : Code) → GoodCode code → distanceIn code ≤ limits
 unfolding codeCounts
 good-delays code g = good-within code g .distance
 
-pub good-lines : (code : Code) → GoodCode code → Each (λ i. rowOfInstruction i .later ≤ distanceOf i) code
+pub good-lines : (code : Code) → GoodCode code → HasLines code
 good-lines code g = go code (λ n h. g n h .some)
   where
-    go : (is : Code) → ((n : ℕ) → n < length is → rowOfInstruction (getD is n One) .later ≤ distanceOf (getD is n One)) → Each (λ i. rowOfInstruction i .later ≤ distanceOf i) is
+    go : (is : Code) → ((n : ℕ) → n < length is → rowOfInstruction (getD is n One) .later ≤ distanceOf (getD is n One)) → HasLines is
     go [] f = tt
     go (i ∷ is) f = (f 0 (omega arith), go is (λ n h. f (suc n) (omega arith)))
 

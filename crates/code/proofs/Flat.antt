@@ -1,21 +1,22 @@
--- An array of four numbers for each instruction holds the code. The numbers of an instruction give it back, and those behind them are four places further on; and the first
--- instructions in an array are the same however many more are read from it.
+-- An array of four numbers for each instruction holds the code. The numbers of an instruction give it back, and those behind them are four places further on;
+-- and the first instructions in an array are the same however many more are read from it.
 use mathlib.Core.Path.{_≡_, refl, ap}
 use mathlib.Core.List.{List, [], _∷_, _++_, append-assoc, append-nil}
 use mathlib.Core.Logic.{by-cases}
 use Prim.Native.Nat.{ℕ, zero, suc, _+_, _*_, _-_, _≤_, _<_}
 use native.Mathlib.Decide.{decLt}
 use native.Mathlib.Omega.{arith}
-use lib.ListN.{length, getD, take, set, replicate, length-append, List·getD-append}
+use lib.ListN.{length, getD, take, set, length-append, List·getD-append}
 use lib.Seq.{take-all, take-append-le, getD-append-add, getD-at}
 use Rattle.ground.specs.Padded.{padded}
 use Rattle.ground.proofs.Padded.{set-padded}
-use Rattle.code.specs.Code.{Instruction, One, Flag, Nand, Reach, Later, Code, instructionOf, fourNumbers}
+use Rattle.code.specs.Code.{Instruction, One, Flag, Nand, Reach, Later, Code, instructionOf, perInstruction, fourNumbers}
 use Rattle.code.specs.Loading.{flat}
 use Rattle.code.specs.Good.{FineInstruction, GoodCode}
-use Rattle.code.specs.Programs.{instructionAt, codeIn}
+use Rattle.code.specs.Programs.{numberIn, instructionAt, codeIn}
+use Rattle.code.proofs.Instructions.{is-one, is-flag, is-nand, is-reach, is-later}
 
-four : (i : Instruction) → length (fourNumbers i) ≡ 4
+four : (i : Instruction) → length (fourNumbers i) ≡ perInstruction
 unfolding fourNumbers
 four One = refl
 four (Flag k) = refl
@@ -28,13 +29,14 @@ unfolding flat
 flat-more [] i = rw append-nil
 flat-more (j ∷ is) i = rw (flat-more is i, append-assoc)
 
-pub flat-length : (is : Code) → length (flat is) ≡ 4 * length is
+pub flat-length : (is : Code) → length (flat is) ≡ perInstruction * length is
 unfolding flat
 flat-length [] = refl
 flat-length (i ∷ is) = rw length-append (omega (arith, four i, flat-length is))
 
 -- four numbers more, in an array with zeros behind
-pub four-more : (n : ℕ) (xs : List ℕ) (a b c d : ℕ) → length xs + 4 ≤ n → set (set (set (set (padded n xs) (length xs) a) (length xs + 1) b) (length xs + 2) c) (length xs + 3) d ≡ padded n (xs ++ a ∷ b ∷ c ∷ d ∷ [])
+pub four-more : (n : ℕ) (xs : List ℕ) (a b c d : ℕ) → length xs + perInstruction ≤ n
+    → set (set (set (set (padded n xs) (length xs) a) (length xs + 1) b) (length xs + 2) c) (length xs + 3) d ≡ padded n (xs ++ a ∷ b ∷ c ∷ d ∷ [])
 four-more n xs a b c d h =
     rw (
       put xs (length xs) a refl (omega arith),
@@ -60,7 +62,7 @@ first-back (Reach i j w) zs = refl
 first-back (Later i d) zs = refl
 
 module _ (i : Instruction) (zs : List ℕ) where
-  number-behind : (p q : ℕ) → p ≡ 4 + q → getD (fourNumbers i ++ zs) p 0 ≡ getD zs q 0
+  number-behind : (p q : ℕ) → p ≡ perInstruction + q → getD (fourNumbers i ++ zs) p 0 ≡ getD zs q 0
   number-behind p q e =
       let k : p ≡ length (fourNumbers i) + q = omega (arith, four i) in
       rw (k, getD-append-add)
@@ -69,10 +71,10 @@ module _ (i : Instruction) (zs : List ℕ) where
   unfolding instructionAt
   instruction-behind n =
       cc (
-        number-behind (4 * suc n) (4 * n) (omega arith),
-        number-behind (4 * suc n + 1) (4 * n + 1) (omega arith),
-        number-behind (4 * suc n + 2) (4 * n + 2) (omega arith),
-        number-behind (4 * suc n + 3) (4 * n + 3) (omega arith),
+        number-behind (perInstruction * suc n) (perInstruction * n) (omega arith),
+        number-behind (perInstruction * suc n + 1) (perInstruction * n + 1) (omega arith),
+        number-behind (perInstruction * suc n + 2) (perInstruction * n + 2) (omega arith),
+        number-behind (perInstruction * suc n + 3) (perInstruction * n + 3) (omega arith),
       )
 
   code-cons : (n : ℕ) → codeIn (fourNumbers i ++ zs) (suc n) ≡ i ∷ codeIn zs n
@@ -80,14 +82,10 @@ module _ (i : Instruction) (zs : List ℕ) where
   code-cons zero = ap (λ k. k ∷ []) (first-back i zs)
   code-cons (suc n) = cc (code-cons n, instruction-behind n)
 
-code-first : (is : Code) (zs : List ℕ) → codeIn (flat is ++ zs) (length is) ≡ is
+pub code-flat : (is : Code) → codeIn (flat is) (length is) ≡ is
 unfolding flat codeIn
-code-first [] zs = refl
-code-first (i ∷ is) zs = rw append-assoc (rw (code-first is zs) at (code-cons i (flat is ++ zs) (length is)))
-
-pub code-back : (n : ℕ) (is : Code) → codeIn (padded n (flat is)) (length is) ≡ is
-unfolding padded
-code-back n is = code-first is (replicate (n - length (flat is)) 0)
+code-flat [] = refl
+code-flat (i ∷ is) = rw (code-flat is) at (code-cons i (flat is) (length is))
 
 module _ (numbers : List ℕ) where
   pub code-length : (n : ℕ) → length (codeIn numbers n) ≡ n
@@ -130,3 +128,29 @@ module _ (numbers : List ℕ) where
   fine-at m n g h =
       let f = g n (omega (arith, code-length m)) in
       rw (code-prefix m n (omega arith), code-at m n h) at f
+
+-- The instruction at a place, by its code byte
+
+module _ (numbers : List ℕ) (n : ℕ) where
+  pub at-one : getD numbers (perInstruction * n) 0 ≡ 0x01 → instructionAt numbers n ≡ One
+  unfolding instructionAt
+  at-one e = is-one _ _ _ _ e
+
+  pub at-flag : getD numbers (perInstruction * n) 0 ≡ 0x02 → instructionAt numbers n ≡ Flag (numberIn numbers n 1)
+  unfolding instructionAt
+  at-flag e = is-flag _ _ _ _ e
+
+  pub at-nand : getD numbers (perInstruction * n) 0 ≡ 0x03 → instructionAt numbers n ≡ Nand (numberIn numbers n 1) (numberIn numbers n 2)
+  unfolding instructionAt
+  at-nand e = is-nand _ _ _ _ e
+
+  pub at-reach : getD numbers (perInstruction * n) 0 ≡ 0x04
+      → instructionAt numbers n ≡ Reach (numberIn numbers n 1) (numberIn numbers n 2) (numberIn numbers n 3)
+  unfolding instructionAt
+  at-reach e = is-reach _ _ _ _ e
+
+  pub at-later : (getD numbers (perInstruction * n) 0 ≡ 0x01 → ⊥) → (getD numbers (perInstruction * n) 0 ≡ 0x02 → ⊥)
+      → (getD numbers (perInstruction * n) 0 ≡ 0x03 → ⊥) → (getD numbers (perInstruction * n) 0 ≡ 0x04 → ⊥)
+      → instructionAt numbers n ≡ Later (numberIn numbers n 1) (numberIn numbers n 2)
+  unfolding instructionAt
+  at-later a b c d = is-later _ _ _ _ a b c d

@@ -37,14 +37,16 @@ module _ (code i j k : ℕ) where
   is-later a b c d = simp (ne-eqb code 0x01 a, ne-eqb code 0x02 b, ne-eqb code 0x03 c, ne-eqb code 0x04 d)
 
 -- an instruction's bytes are those of the item that is read
-pub instruction-bytes : (code : ℕ) → numbersIn Table.Code code < noCode → (i j k : ℕ) → itemBytes Table.Code code i j k ≡ bytesOfInstruction (instructionOf code i j k)
+pub instruction-bytes : (code : ℕ) → numbersIn Table.Code code < noCode → (i j k : ℕ)
+    → itemBytes Table.Code code i j k ≡ bytesOfInstruction (instructionOf code i j k)
 unfolding itemBytes numbersBytes look instructionCodes bytesOfInstruction instructionOf
 instruction-bytes =
     by-row (λ code. (i j k : ℕ) → itemBytes Table.Code code i j k ≡ bytesOfInstruction (instructionOf code i j k)) instructionCodes
     ((λ i j k. refl), ((λ i j k. rw append-nil), ((λ i j k. rw append-nil), ((λ i j k. rw append-nil), ((λ i j k. rw append-nil), tt)))))
 
 -- an instruction's numbers are those that are read, as those that it lacks are 0
-pub four-numbers : (code : ℕ) → numbersIn Table.Code code < noCode → (i j k : ℕ) → Fitting Table.Code code i j k → fourNumbers (instructionOf code i j k) ≡ code ∷ i ∷ j ∷ k ∷ []
+pub four-numbers : (code : ℕ) → numbersIn Table.Code code < noCode → (i j k : ℕ) → Fitting Table.Code code i j k
+    → fourNumbers (instructionOf code i j k) ≡ code ∷ i ∷ j ∷ k ∷ []
 unfolding look instructionCodes instructionOf fourNumbers padded
 four-numbers =
     by-row (λ code. (i j k : ℕ) → Fitting Table.Code code i j k → fourNumbers (instructionOf code i j k) ≡ code ∷ i ∷ j ∷ k ∷ []) instructionCodes

@@ -18,7 +18,7 @@ use Rattle.code.proofs.Accepted.{good-on}
 use Rattle.code.proofs.Counting.{good-none, good-instructions, good-counters}
 use Rattle.code.proofs.Instructions.{instruction-bytes, code-length}
 
--- each refusal by the judge has the instruction's place
+-- each refusal of an instruction has the instruction's place
 check-placed : (is : Code) (at : ℕ) (i : Instruction) → Placed at (codeKind .check is at i)
 unfolding checkInstruction
 check-placed is at i =
@@ -33,4 +33,5 @@ good-short code g = omega (arith, code-length code, good-instructions code g, go
 
 pub code-place : (bytes : List ℕ) (r : Refusal) → AllBytes bytes → readCode bytes ≡ refused r → placeOf r ≤ mostCodePlace
 code-place bytes r small e =
-    all-place codeKind bytesOfInstruction GoodCode good-none good-on (λ n i j k known. instruction-bytes n known i j k) mostCodePlace good-short check-placed bytes r small e
+    all-place codeKind bytesOfInstruction GoodCode good-none good-on
+    (λ n i j k known. instruction-bytes n known i j k) mostCodePlace good-short check-placed bytes r small e

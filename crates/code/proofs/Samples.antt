@@ -9,6 +9,7 @@ use Rattle.code.specs.Loading.{reachesIn, distanceIn, codeCounts, codeCo
 use Rattle.code.specs.Samples.{CodeRight, samples}
 
 pub samples-right : Each CodeRight samples
-unfolding samples readAll inTurn itemAt numbersFrom look instructionCodes numberAt instructionOf checkInstruction codeCounts codeCounted reachesIn distanceIn codeTooLarge
+unfolding samples readAll inTurn itemAt numbersFrom look instructionCodes numberAt instructionOf checkInstruction codeCounts codeCounted reachesIn distanceIn
+    codeTooLarge
 samples-right =
     (refl, (refl, (refl, (refl, (refl, (refl, (refl, (refl, (refl, (refl, (refl, tt)))))))))))

@@ -1,5 +1,5 @@
--- Each public function's statement allows one answer: two results that it allows of the same arguments are equal, and so is every buffer that is lent to be written. `Post` is
--- the function's own `ensures`.
+-- Each public function's statement allows one answer: two results that it allows of the same arguments are equal, and so is every buffer that is lent to be
+-- written. `Post` is the function's own `ensures`.
 use mathlib.Core.Path.{_≡_}
 use Rattle.code.proofs.load.decode.Reads as decode
 use Rattle.code.proofs.load.load_code.Reads as load-code

@@ -1,5 +1,6 @@
--- The sequencer's instructions, their numbers and their bytes. Document 01, "The sequencer": "Each instruction writes one bit, known by the instruction's number from 0",
--- and its table of codes: "01 ONE, 02 k FLAG, 03 i j NAND, 04 i j w REACH, 05 i d LATER".
+-- The sequencer's instructions, their numbers and their bytes. Document 01, "The sequencer": "Each instruction writes
+-- one bit, known by the instruction's number from 0", and its table of codes: "01 ONE, 02 k FLAG, 03 i j NAND, 04 i j w
+-- REACH, 05 i d LATER".
 use mathlib.Core.Bool.{cond}
 use mathlib.Core.List.{List, [], _∷_, _++_}
 use Prim.Native.Nat.{ℕ}
@@ -25,6 +26,10 @@ instructionOf code i j k =
     (cond (eqb code 0x02) (Flag i)
     (cond (eqb code 0x03) (Nand i j)
     (cond (eqb code 0x04) (Reach i j k) (Later i j))))
+
+-- How many numbers stand for an instruction
+abbrev pub perInstruction : ℕ
+perInstruction = 4
 
 -- An instruction by four numbers: its code byte and those behind it; what it lacks is 0
 unfoldable pub fourNumbers : Instruction → List ℕ

@@ -1,6 +1,8 @@
--- What holds of code that no test has refused so far, and so of all accepted code. Contracts of inner functions cite it; `load_code` says nothing of it.
+-- What holds of code that no test has refused so far, and so of all accepted code. Contracts of inner functions cite
+-- it; `load_code` says nothing of it.
 use Prim.Native.Nat.{ℕ, _+_, _≤_, _<_}
 use lib.ListN.{length, getD, take}
+use Rattle.ground.specs.Each.{Each}
 use Rattle.ground.specs.Limits.{limits}
 use Rattle.code.specs.Code.{Instruction, One, Code}
 use Rattle.code.specs.Loading.{reachOf, distanceOf, reachesIn, distanceIn}
@@ -27,3 +29,7 @@ pub record FineInstruction (is : Code) (i : Instruction) : Type 0 where
 -- Code that no test refuses: each instruction is fine after those before it
 abbrev pub GoodCode : Code → Type 0
 GoodCode code = (n : ℕ) → n < length code → FineInstruction (take n code) (getD code n One)
+
+-- Code in which every LATER has a line of delay bits
+abbrev pub HasLines : Code → Type 0
+HasLines code = Each (λ i. rowOfInstruction i .later ≤ distanceOf i) code

@@ -1,5 +1,6 @@
--- Reading code: the instructions in turn, each judged as it comes. Document 01: "Code is accepted with 1 to 320 instructions, at most 16 REACH, LATER distances of 1 to 255
--- adding up to at most 256, w at most 255, operands that are earlier instructions", refused by "5 flag above 7", "10 operand not an earlier instruction", "11 w > 255, d = 0
+-- Reading code: the instructions in turn, each checked as it comes. Document 01: "Code is accepted with 1 to 320
+-- instructions, at most 16 REACH, LATER distances of 1 to 255 adding up to at most 256, w at most 255, operands that
+-- are earlier instructions", refused by "5 flag above 7", "10 operand not an earlier instruction", "11 w > 255, d = 0
 -- or d > 255" and "12 321st instruction, 17th REACH, or distances above 256", in this order.
 use mathlib.Core.Bool.{Bool, false, cond, _||_}
 use mathlib.Core.List.{List, [], _∷_, _++_}
@@ -11,7 +12,7 @@ use Rattle.ground.specs.Limits.{limits}
 use Rattle.ground.specs.Padded.{padded}
 use Rattle.reading.specs.declared.item.Table.{Table}
 use Rattle.ground.specs.declared.refusal.Refusal.{Refusal}
-use Rattle.code.specs.Code.{Instruction, One, Flag, Nand, Reach, Later, Code, instructionOf, fourNumbers}
+use Rattle.code.specs.Code.{Instruction, One, Flag, Nand, Reach, Later, Code, instructionOf, perInstruction, fourNumbers}
 use Rattle.code.specs.declared.check.CodeCounts.{CodeCounts}
 use Rattle.code.specs.declared.check.CheckedInstruction.{CheckedInstruction}
 use Rattle.code.specs.declared.load.LoadedCode.{LoadedCode}
@@ -92,9 +93,10 @@ checkInstruction c at i =
     cond (flagTooLarge i) (CheckedInstruction.Refused (Refusal.FlagTooLarge at))
     (cond (notEarlier (c .instructions) i) (CheckedInstruction.Refused (Refusal.NotEarlier at))
     (cond (badWidth i) (CheckedInstruction.Refused (Refusal.BadWidth at))
-    (cond (codeTooLarge (codeCounted c i)) (CheckedInstruction.Refused (Refusal.CodeTooLarge at)) (CheckedInstruction.Next (codeCounted c i)))))
+    (cond (codeTooLarge (codeCounted c i)) (CheckedInstruction.Refused (Refusal.CodeTooLarge at))
+    (CheckedInstruction.Next (codeCounted c i)))))
 
--- What judging an instruction says
+-- What checking an instruction says
 abbrev pub instructionOutcome : CheckedInstruction → Outcome
 instructionOutcome (CheckedInstruction.Next c) = fine
 instructionOutcome (CheckedInstruction.Refused r) = bad r
@@ -131,6 +133,10 @@ unfoldable pub flat : Code → List ℕ
 flat [] = []
 flat (i ∷ is) = fourNumbers i ++ flat is
 
+-- The numbers of the longest code
+abbrev pub mostCodeNumbers : ℕ
+mostCodeNumbers = perInstruction * limits .instructions
+
 -- What loading keeps of code: the answer, and the instructions by their numbers, in an array with zeros behind
 unfoldable pub programOf : AllRead Instruction → Program
-programOf read = record { loaded = loadedCodeOf read; numbers = padded (4 * limits .instructions) (flat (codeOf read)) }
+programOf read = record { loaded = loadedCodeOf read; numbers = padded mostCodeNumbers (flat (codeOf read)) }

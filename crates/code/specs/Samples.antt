@@ -1,5 +1,5 @@
--- Samples of code: one table, and what it is for a row to be right. Document 01: the code of its sample of a run, and of "* Rule `12 00 32 02 04` emits `02 00 01 04 01 00 02 05 02 02`";
--- and code at the edges of the refusals.
+-- Samples of code: one table, and what it is for a row to be right. Document 01: the code of its sample of a run, and
+-- of "* Rule `12 00 32 02 04` emits `02 00 01 04 01 00 02 05 02 02`"; and code at the edges of the refusals.
 use mathlib.Core.Path.{_≡_}
 use mathlib.Core.List.{List, [], _∷_}
 use Prim.Native.Nat.{ℕ}

@@ -1,10 +1,10 @@
-// Judging an instruction: 5, 10, 11, 12 in turn.
+// Checking an instruction: 5, 10, 11, 12 in turn.
 ghost use mathlib.Core.Path.{_≡_};
 ghost use Prim.Native.Nat.{_+_, max};
 ghost use Rattle.code.specs.Code.{instructionOf};
 ghost use Rattle.code.specs.Good.{CodeWithin};
 ghost use Rattle.code.specs.Loading.{codeTooLarge};
-ghost use Rattle.code.specs.Inner.Rows.{rowOfInstruction, badRow, countedRow, checkRow};
+ghost use Rattle.code.specs.Inner.Rows.{instructionRow, rowOfInstruction, badRow, countedRow, checkRow};
 use ground::limits::COUNTERS;
 use ground::limits::DELAYS;
 use ground::limits::MOST_DISTANCE;
@@ -13,8 +13,8 @@ use ground::limits::MOST_INSTRUCTIONS;
 use ground::limits::MOST_WIDTH;
 use ground::refusal::Refusal;
 
-// What is judged of an instruction: its flag, how many instructions its operands need before it, whether it is a REACH (1 or 0) and its
-// width, whether it is a LATER (1 or 0) and its distance. What it lacks is 0.
+// What is checked of an instruction: its flag, how many instructions its operands need before it, whether it is a REACH
+// (1 or 0) and its width, whether it is a LATER (1 or 0) and its distance. What it lacks is 0.
 pub(crate) struct InstructionRow {
     pub flag: u16,
     pub needs: usize,
@@ -45,7 +45,7 @@ fn new_row(
     later: u16,
     distance: u16,
 ) -> InstructionRow
-    ensures { λ r. ⌜ r ≡ record { flag = flag; needs = needs; reach = reach; width = width; later = later; distance = distance } ⌝ }
+    ensures { λ r. ⌜ r ≡ instructionRow flag needs reach width later distance ⌝ }
 {
     InstructionRow {
         flag,
@@ -67,7 +67,7 @@ fn needs_of(first: u16, second: u16) -> usize
     first as usize + 1
 }
 
-// What is judged of the instruction of a code byte and its numbers.
+// What is checked of the instruction of a code byte and its numbers.
 pub(crate) fn row_of(code: u8, first: u16, second: u16, third: u16) -> InstructionRow
     ensures { λ r. ⌜ r ≡ rowOfInstruction (instructionOf code first second third) ⌝ }
 {
@@ -80,7 +80,7 @@ pub(crate) fn row_of(code: u8, first: u16, second: u16, third: u16) -> Instructi
     }
 }
 
-// Whether a width or a distance is out of range: w > 255, d = 0 or d > 255.
+// Whether a width or a distance is out of range: a w that is too large, or a d that is 0 or too large.
 fn bad_width(row: InstructionRow) -> bool
     ensures { λ r. ⌜ r ≡ badRow row ⌝ }
 {
@@ -93,7 +93,7 @@ fn bad_width(row: InstructionRow) -> bool
     MOST_DISTANCE < row.distance
 }
 
-// Whether code is too large: 321st instruction, 17th REACH, or distances above 256.
+// Whether code is too large: an instruction or a REACH too many, or distances that add up to too much.
 fn too_large(counts: CodeCounts) -> bool
     ensures { λ r. ⌜ r ≡ codeTooLarge counts ⌝ }
 {
@@ -118,7 +118,7 @@ fn counted(counts: CodeCounts, row: InstructionRow) -> CodeCounts
     }
 }
 
-// Judges the instruction at a place, after instructions that are counted.
+// Checks the instruction at a place, after instructions that are counted.
 pub(crate) fn check(counts: CodeCounts, at: usize, row: InstructionRow) -> CheckedInstruction
     requires { ⌜ CodeWithin counts ⌝ }
     ensures { λ r. ⌜ r ≡ checkRow counts at row ⌝ }

@@ -1,4 +1,4 @@
-// Loading code: one walk over its bytes judges each instruction in turn and keeps the numbers of accepted code.
+// Loading code: one walk over its bytes checks each instruction in turn and keeps the numbers of accepted code.
 ghost use mathlib.Core.Path.{_≡_};
 ghost use Rattle.reading.specs.InTurn.{refused};
 ghost use Rattle.code.specs.Loading.{readCode, loadedCodeOf, programOf};
@@ -12,8 +12,11 @@ use reading::item::Read;
 use reading::item::Table;
 use reading::reader::read_item;
 
-// Four numbers stand for an instruction: its code byte, and those behind it.
-pub const NUMBERS: usize = 4 * MOST_INSTRUCTIONS;
+// How many numbers stand for an instruction: its code byte, and those behind it.
+pub const PER_INSTRUCTION: usize = 4;
+
+// The numbers of the longest code.
+pub const NUMBERS: usize = PER_INSTRUCTION * MOST_INSTRUCTIONS;
 
 // What loading answers: how many instructions, or the refusal.
 pub enum LoadedCode {
@@ -21,7 +24,8 @@ pub enum LoadedCode {
     Refused(Refusal),
 }
 
-// Code that was loaded: the answer and, if it is accepted, four numbers for each instruction in order, with zeros behind.
+// Code that was loaded: the answer and, if it is accepted, four numbers for each instruction in order, with zeros
+// behind.
 pub struct Program {
     pub loaded: LoadedCode,
     pub numbers: [u16; NUMBERS],
@@ -61,7 +65,7 @@ pub fn decode(bytes: &[u8]) -> Program
                 next,
             } => match check(counts, at, row_of(code, first, second, third)) {
                 CheckedInstruction::Next(more) => {
-                    let base = 4 * counts.instructions;
+                    let base = PER_INSTRUCTION * counts.instructions;
                     numbers[base] = code as u16;
                     numbers[base + 1] = first;
                     numbers[base + 2] = second;

@@ -1,24 +1,28 @@
-// Answers each case of a stream for the sequencer or the emitter, one line for each: the proved side of the comparison with the independent
-// second program, `second answer` of tests/second, which writes the same lines.
+// Answers each case of a stream for the sequencer or the emitter, one line for each: the proved side of the comparison
+// with the independent second program, `second answer` of tests/second, which writes the same lines.
 //
-// Standard input, until it ends: a byte for the case's kind, and three times bytes, each with their length before them as four bytes, lowest
-// first: for `l`, load, the code and twice nothing; for `s`, step, the code, the frame, and the registers as 288 bytes (sixteen counters of
-// two bytes, lowest first, and a byte for each of the 256 delay bits); for `r`, run, the code, the clip, and the buffer as it is before; for
-// `e`, emit, the rule, nothing, and the buffer as it is before; for `j`, verdicts, the rule, the clip, and the buffer as it is before.
+// Standard input, until it ends: a byte for the case's kind, and three times bytes, each with their length before them
+// as four bytes, lowest first: for `l`, load, the code and twice nothing; for `s`, step, the code, the frame, and the
+// registers (two bytes for each counter, lowest first, and behind them a byte for each delay bit); for `r`, run, the
+// code, the clip, and the buffer as it is before; for `e`, emit, the rule, nothing, and the buffer as it is before; for
+// `j`, verdicts, the rule, the clip, and the buffer as it is before.
 //
-// Standard output: for load, `accepted INSTRUCTIONS` or `refused NUMBER PLACE`; for step, `bit BIT` or the refusal, and ` counters COUNTERS delays
-// DELAYS` with all registers after it, the delay bits as 64 hex digits, the first bit highest; for run, `done` or the refusal, and ` [BUFFER]` with
-// every byte of the buffer after it, two hex digits each; for emit, `length LENGTH` or the refusal, and ` [BUFFER]`; for verdicts, what a run of the
-// rule's emitted code answers, or the rule's refusal, and ` [BUFFER]`. Where bytes are longer than 131,072, the kind is another, or the stream
+// Standard output: for load, `accepted INSTRUCTIONS` or `refused NUMBER PLACE`; for step, `bit BIT` or the refusal, and
+// ` counters COUNTERS delays DELAYS` with all registers after it, the delay bits as hex digits, the first bit highest;
+// for run, `done` or the refusal, and ` [BUFFER]` with every byte of the buffer after it, two hex digits each; for
+// emit, `length LENGTH` or the refusal, and ` [BUFFER]`; for verdicts, what a run of the rule's emitted code answers,
+// or the rule's refusal, and ` [BUFFER]`. Where bytes are longer than `MOST_BYTES`, the kind is another, or the stream
 // ends inside a case, the line is `cut`, and it is the last.
 ghost use Prim.Native.Nat.{_<_};
+ghost use Rattle.ground.specs.Buffers.{byteValues};
 use code::load::LoadedCode;
 use code::load::load_code;
 use emitter::emit::Emitted;
-use emitter::emit::MOST_CODE;
 use emitter::emit::emit;
 use ground::limits::COUNTERS;
 use ground::limits::DELAYS;
+use ground::limits::MOST_CODE;
+use ground::limits::MOST_FRAMES;
 use ground::refusal::Refusal;
 use ground::refusal::number;
 use ground::refusal::place;
@@ -29,39 +33,54 @@ use sequencer::registers::Registers;
 use sequencer::run::Ran;
 use sequencer::run::run;
 
-// The most bytes that are read at once.
-const MOST_BYTES: usize = 131_072;
+// How many values a byte has, and two bytes.
+const BYTE_VALUES: usize = 256;
+
+const PAIR_VALUES: usize = BYTE_VALUES * BYTE_VALUES;
+
+// The most bytes that are read at once: twice a clip that is a frame too long.
+const MOST_BYTES: usize = 2 * (MOST_FRAMES + 1);
 
 // What is answered for the length of bytes that the stream does not have: more than any buffer holds.
-const NO_LENGTH: usize = 4_294_967_296;
+const NO_LENGTH: usize = MOST_BYTES + 1;
+
+// The bytes of a length.
+const LENGTH_BYTES: usize = 4;
 
 // The bytes of a step's counters, two for each. The delay bits stand behind them.
-const COUNTER_BYTES: usize = 32;
+const COUNTER_BYTES: usize = 2 * COUNTERS;
+
+// The bytes, the bits and the hex digits of a word that is written at once.
+const WORD_BYTES: usize = 8;
+
+const WORD_BITS: usize = 8 * WORD_BYTES;
+
+const WORD_DIGITS: usize = 2 * WORD_BYTES;
 
 // A byte as a number.
 fn wide(byte: u8) -> usize
-    ensures { λ r. ⌜ r < 256 ⌝ }
+    ensures { λ r. ⌜ r < byteValues ⌝ }
 {
     byte as usize
 }
 
 // A byte as a long number.
 fn long(byte: u8) -> u64
-    ensures { λ r. ⌜ r < 256 ⌝ }
+    ensures { λ r. ⌜ r < byteValues ⌝ }
 {
     byte as u64
 }
 
 // The number of two bytes.
 fn short_of(low: u8, high: u8) -> u16 {
-    low as u16 + high as u16 * 256
+    (wide(high) * BYTE_VALUES + wide(low)) as u16
 }
 
-// The length that four bytes hold, lowest first.
-fn length_of(bytes: [u8; 4]) -> usize {
-    let high = wide(bytes[3]) * 256 + wide(bytes[2]);
-    let low = wide(bytes[1]) * 256 + wide(bytes[0]);
-    high * 65_536 + low
+// The length that bytes hold, lowest first.
+fn length_of(bytes: [u8; LENGTH_BYTES]) -> usize {
+    let high = wide(bytes[3]) * BYTE_VALUES + wide(bytes[2]);
+    let low = wide(bytes[1]) * BYTE_VALUES + wide(bytes[0]);
+    high * PAIR_VALUES + low
 }
 
 // A bit as a number.
@@ -139,7 +158,7 @@ fn write_counters(counters: [u16; COUNTERS]) {
     }
 }
 
-// Writes all delay bits, 64 of them at a time: a word of 64 bits keeps the last 64 that came in.
+// Writes all delay bits, a word of them at a time: the word keeps the last that came in.
 fn write_delays(delays: [bool; DELAYS]) {
     write(b" delays ");
     let mut word = 0u64;
@@ -147,13 +166,13 @@ fn write_delays(delays: [bool; DELAYS]) {
     while n < DELAYS {
         word = (word << 1) | bit_of(delays[n]);
         n += 1;
-        if n % 64 == 0 {
-            io::print_hex(STDOUT_FILENO, word, 16);
+        if n % WORD_BITS == 0 {
+            io::print_hex(STDOUT_FILENO, word, WORD_DIGITS);
         }
     }
 }
 
-// Writes bytes as hex digits, eight bytes at a time.
+// Writes bytes as hex digits, a word at a time.
 fn write_hex(bytes: &[u8]) {
     let mut word = 0u64;
     let mut held = 0;
@@ -162,8 +181,8 @@ fn write_hex(bytes: &[u8]) {
         word = (word << 8) | long(bytes[n]);
         held += 1;
         n += 1;
-        if held == 8 {
-            io::print_hex(STDOUT_FILENO, word, 16);
+        if held == WORD_BYTES {
+            io::print_hex(STDOUT_FILENO, word, WORD_DIGITS);
             word = 0;
             held = 0;
         }
@@ -255,7 +274,8 @@ fn verdicts(rule: &[u8], clip: &[u8], buffer: &mut [u8]) -> Ran {
     }
 }
 
-// Says for each frame of a clip whether a rule holds from there, and writes the answer and every byte of the buffer after it.
+// Says for each frame of a clip whether a rule holds from there, and writes the answer and every byte of the buffer
+// after it.
 fn answer_verdicts(rule: &[u8], clip: &[u8], buffer: &mut [u8]) {
     write_ran(verdicts(rule, clip, &mut *buffer));
     write_buffer(buffer);
@@ -292,11 +312,12 @@ fn answer_case(kind: u8, first: &[u8], second: &[u8], third: &mut [u8]) -> bool 
     cut()
 }
 
-// Reads a length and so many bytes to the buffer's start. Answers the length; it is more than the buffer has where the stream is cut.
+// Reads a length and so many bytes to the buffer's start. Answers the length; it is more than the buffer has where the
+// stream is cut.
 fn read_bytes(buffer: &mut [u8]) -> usize {
-    let mut four = [0; 4];
+    let mut four = [0; LENGTH_BYTES];
     let got = io::read_full(STDIN_FILENO, &mut four);
-    if got < 4 {
+    if got < LENGTH_BYTES {
         return NO_LENGTH;
     }
     let length = length_of(four);
@@ -347,7 +368,8 @@ fn answer_next(first: &mut [u8], second: &mut [u8], third: &mut [u8]) -> bool {
     read_first(kind[0], &mut *first, &mut *second, &mut *third)
 }
 
-// A proved loop has to end, and nothing says that the stream does: the turns are counted down, from a number that no run uses up.
+// A proved loop has to end, and nothing says that the stream does: the turns are counted down, from a number that no
+// run uses up.
 fn answer_all(first: &mut [u8], second: &mut [u8], third: &mut [u8]) {
     let mut turns = u64::MAX;
     while turns > 0 && answer_next(&mut *first, &mut *second, &mut *third) {

@@ -1,6 +1,6 @@
--- From fresh registers, after any clip, every register and every bit is what the definitions say of that clip. Instruction by instruction a step finds its registers where the
--- clip left them, behind those of the instructions before it, and leaves there what one frame more makes of them; how many registers code takes does not depend on the clip,
--- so the rest stays as it was.
+-- From fresh registers, after any clip, every register and every bit is what the definitions say of that clip. Instruction by instruction a step finds its
+-- registers where the clip left them, behind those of the instructions before it, and leaves there what one frame more makes of them; how many registers code
+-- takes does not depend on the clip, so the rest stays as it was.
 use mathlib.Core.Path.{_≡_, refl, sym, ap, _∙_}
 use mathlib.Core.Bool.{Bool, false}
 use mathlib.Core.List.{List, [], _∷_, _++_, map, append-assoc, map-append}
@@ -11,15 +11,14 @@ use lib.Dec.{leb·zero, leb·suc-zero, leb·suc-suc}
 use lib.ListN.{length, getD, drop, replicate, length-append, replicate-append-replicate, List·getD-map}
 use lib.Seq.{take-append-seam, take-append-add, drop-append-seam, drop-append-add, getD-append-seam, set-append-seam}
 use Rattle.ground.specs.Buffers.{over}
-use Rattle.ground.specs.Each.{Each}
 use Rattle.ground.specs.Frames.{Clip}
 use Rattle.ground.specs.Limits.{limits}
 use Rattle.sequencer.specs.Bits.{Wire, Counter, none, count, counter, later, wire, wireOf, wiresFrom, output}
 use Rattle.code.specs.Code.{Instruction, One, Flag, Nand, Reach, Later, Code}
 use Rattle.code.specs.Loading.{reachOf, distanceOf, reachesIn, distanceIn}
 use Rattle.code.specs.Inner.Rows.{rowOfInstruction}
-use Rattle.sequencer.specs.Registers.{counterOf, kept, freshRegisters, start, shifted, execute, executed, registersOf, outputOf}
-use Rattle.code.specs.Good.{GoodCode}
+use Rattle.sequencer.specs.Registers.{Working, counterOf, kept, freshRegisters, start, shifted, execute, executed, registersOf, outputOf}
+use Rattle.code.specs.Good.{GoodCode, HasLines}
 use Rattle.sequencer.specs.After.{window, ownCounter, ownDelays, countersOf, delaysOf, registersAfter, stepsOver}
 use Rattle.code.proofs.Counting.{good-counters, good-delays, good-lines}
 
@@ -48,7 +47,8 @@ module _ (i : Wire) where
   window-more (suc d) x c = cc (later-more d x c, window-more d x c)
 
 -- a line that moves on, between what stands before it and what stands behind it
-shifted-line : (before line behind : List Bool) (oldest newest : Bool) → shifted (before ++ oldest ∷ (line ++ behind)) (length before) (suc (length line)) newest ≡ before ++ ((line ++ newest ∷ []) ++ behind)
+shifted-line : (before line behind : List Bool) (oldest newest : Bool)
+    → shifted (before ++ oldest ∷ (line ++ behind)) (length before) (suc (length line)) newest ≡ before ++ ((line ++ newest ∷ []) ++ behind)
 unfolding shifted
 shifted-line before line behind oldest newest =
     simp (take-append-seam, take-append-add, drop-append-add, drop-append-seam, append-assoc)
@@ -100,8 +100,16 @@ module _ (x : ℕ) (c : Clip) where
   bit-is : (ws : List Wire) (i : ℕ) → getD (map (λ w. w (x ∷ c)) ws) i false ≡ wire ws i (x ∷ c)
   bit-is ws i = List·getD-map (λ w. w (x ∷ c)) ws i (λ c. false)
 
+  -- where a step stands in the frame, by the bits so far
+  abbrev amid : List Wire → List ℕ → ℕ → List Bool → ℕ → Working
+  amid ws counters used delays taken =
+      record { bits = map (λ w. w (x ∷ c)) ws; counters = counters; used = used; delays = delays; taken = taken }
+
   -- One instruction, behind those before it
-  one : (ws : List Wire) (i : Instruction) → rowOfInstruction i .later ≤ distanceOf i → (A R : List ℕ) (D S : List Bool) → execute x (record { bits = map (λ w. w (x ∷ c)) ws; counters = A ++ (ownCounter ws i c ++ R); used = length A; delays = D ++ (ownDelays ws i c ++ S); taken = length D }) i ≡ record { bits = map (λ w. w (x ∷ c)) (ws ++ wireOf ws i ∷ []); counters = A ++ (ownCounter ws i (x ∷ c) ++ R); used = length A + reachOf i; delays = D ++ (ownDelays ws i (x ∷ c) ++ S); taken = length D + distanceOf i }
+  one : (ws : List Wire) (i : Instruction) → rowOfInstruction i .later ≤ distanceOf i → (A R : List ℕ) (D S : List Bool)
+      → execute x (amid ws (A ++ (ownCounter ws i c ++ R)) (length A) (D ++ (ownDelays ws i c ++ S)) (length D)) i
+      ≡ amid (ws ++ wireOf ws i ∷ []) (A ++ (ownCounter ws i (x ∷ c) ++ R)) (length A + reachOf i)
+      (D ++ (ownDelays ws i (x ∷ c) ++ S)) (length D + distanceOf i)
   unfolding execute wireOf counter
   one ws One h A R D S = simp (map-append, add-zero)
   one ws (Flag k) h A R D S = simp (map-append, add-zero)
@@ -112,7 +120,10 @@ module _ (x : ℕ) (c : Clip) where
       simp (bit-is, window-oldest (wire ws i) d x c D S, window-shifted (wire ws i) d x c D S, map-append, add-zero)
 
   -- Instructions in turn, behind those before them
-  run : (is : Code) → Each (λ i. rowOfInstruction i .later ≤ distanceOf i) is → (ws : List Wire) (A R : List ℕ) (D S : List Bool) → executed x is (record { bits = map (λ w. w (x ∷ c)) ws; counters = A ++ (countersOf ws is c ++ R); used = length A; delays = D ++ (delaysOf ws is c ++ S); taken = length D }) ≡ record { bits = map (λ w. w (x ∷ c)) (wiresFrom ws is); counters = A ++ (countersOf ws is (x ∷ c) ++ R); used = length A + reachesIn is; delays = D ++ (delaysOf ws is (x ∷ c) ++ S); taken = length D + distanceIn is }
+  run : (is : Code) → HasLines is → (ws : List Wire) (A R : List ℕ) (D S : List Bool)
+      → executed x is (amid ws (A ++ (countersOf ws is c ++ R)) (length A) (D ++ (delaysOf ws is c ++ S)) (length D))
+      ≡ amid (wiresFrom ws is) (A ++ (countersOf ws is (x ∷ c) ++ R)) (length A + reachesIn is)
+      (D ++ (delaysOf ws is (x ∷ c) ++ S)) (length D + distanceIn is)
   unfolding executed wiresFrom countersOf delaysOf reachesIn distanceIn
   run [] h ws A R D S = simp add-zero
   run (i ∷ is) h ws A R D S =
@@ -124,17 +135,22 @@ module _ (x : ℕ) (c : Clip) where
       simp (append-assoc, first)
       (simp (append-assoc, length-append, own-counter-length, own-delays-length, add-assoc) at rest)
 
-pub after-step : (code : Code) → Each (λ i. rowOfInstruction i .later ≤ distanceOf i) code → (x : ℕ) (c : Clip) → executed x code (start (registersAfter code c)) ≡ record { bits = map (λ w. w (x ∷ c)) (wiresFrom [] code); counters = registersAfter code (x ∷ c) .counters; used = reachesIn code; delays = registersAfter code (x ∷ c) .delays; taken = distanceIn code }
+pub after-step : (code : Code) → HasLines code → (x : ℕ) (c : Clip) →
+    let after = registersAfter code (x ∷ c) in
+    executed x code (start (registersAfter code c))
+    ≡ amid x c (wiresFrom [] code) (after .counters) (reachesIn code) (after .delays) (distanceIn code)
 unfolding registersAfter
 after-step code h x c =
     let fresh = freshRegisters in
     let s = run x c code h [] [] (drop (reachesIn code) (fresh .counters)) [] (drop (distanceIn code) (fresh .delays)) in
     simp (counters-length, delays-length) (simp zero-add at s)
 
-pub after-registers : (code : Code) → Each (λ i. rowOfInstruction i .later ≤ distanceOf i) code → (x : ℕ) (c : Clip) → registersOf (executed x code (start (registersAfter code c))) ≡ registersAfter code (x ∷ c)
+pub after-registers : (code : Code) → HasLines code → (x : ℕ) (c : Clip)
+    → registersOf (executed x code (start (registersAfter code c))) ≡ registersAfter code (x ∷ c)
 after-registers code h x c = ap registersOf (after-step code h x c)
 
-pub after-output : (code : Code) → Each (λ i. rowOfInstruction i .later ≤ distanceOf i) code → (x : ℕ) (c : Clip) → outputOf code (executed x code (start (registersAfter code c))) ≡ output code (x ∷ c)
+pub after-output : (code : Code) → HasLines code → (x : ℕ) (c : Clip)
+    → outputOf code (executed x code (start (registersAfter code c))) ≡ output code (x ∷ c)
 unfolding output
 after-output code h x c = ap (outputOf code) (after-step code h x c) ∙ bit-is x c (wiresFrom [] code) (length code - 1)
 

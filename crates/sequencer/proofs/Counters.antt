@@ -1,5 +1,5 @@
--- What REACH's counter and LATER's bit say in words. A place reached in a clip with one frame more is that frame, if j holds there, or lies one further on than a place reached
--- before, if i holds at that frame; so the smallest place rises by one, is none past w, and falls to 0, as the counter does.
+-- What REACH's counter and LATER's bit say in words. A place reached in a clip with one frame more is that frame, if j holds there, or lies one further on than
+-- a place reached before, if i holds at that frame; so the smallest place rises by one, is none past w, and falls to 0, as the counter does.
 use mathlib.Core.Path.{_≡_, refl, sym, _∙_}
 use mathlib.Core.Bool.{Bool, true, false, false≢true}
 use mathlib.Core.List.{[], _∷_}

@@ -12,6 +12,7 @@ use Rattle.sequencer.specs.Running.{verdicts, badClip}
 use Rattle.sequencer.specs.Samples.{RanRight, samples}
 
 pub samples-right : Each RanRight samples
-unfolding samples readAll inTurn itemAt numbersFrom look instructionCodes numberAt instructionOf checkInstruction codeCounts codeCounted reachesIn distanceIn codeTooLarge verdicts badClip output wiresFrom wireOf counter next later hasFlag
+unfolding samples readAll inTurn itemAt numbersFrom look instructionCodes numberAt instructionOf checkInstruction codeCounts codeCounted reachesIn distanceIn
+    codeTooLarge verdicts badClip output wiresFrom wireOf counter next later hasFlag
 samples-right =
     ((refl, refl), ((refl, refl), ((refl, refl), ((refl, refl), ((refl, refl), tt)))))

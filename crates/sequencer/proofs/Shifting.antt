@@ -1,5 +1,5 @@
--- A line of delay bits moves on by one, element by element. Up to a place each element of the line is the one that stood behind it, and from there on nothing has changed;
--- the part before that place is as long as before, so a store there is a store at a seam.
+-- A line of delay bits moves on by one, element by element. Up to a place each element of the line is the one that stood behind it, and from there on nothing
+-- has changed; the part before that place is as long as before, so a store there is a store at a seam.
 use mathlib.Core.Path.{_≡_, _∙_}
 use mathlib.Core.Bool.{Bool}
 use mathlib.Core.List.{List, [], _∷_, _++_, append-assoc}
@@ -56,6 +56,7 @@ module _ {A : Type 0} (xs : List A) (at : ℕ) where
       rw (next-moved p from in-p z, set-moved p from in-p own, e, q) (simp append-assoc)
 
 -- once the last element is stored, the line has moved on
-pub shifted-moved : (xs : List Bool) (at d last : ℕ) → last + 1 ≡ at + d → 1 ≤ d → at + d ≤ length xs → (v : Bool) → set (moved xs at last) last v ≡ shifted xs at d v
+pub shifted-moved : (xs : List Bool) (at d last : ℕ) → last + 1 ≡ at + d → 1 ≤ d → at + d ≤ length xs
+    → (v : Bool) → set (moved xs at last) last v ≡ shifted xs at d v
 unfolding shifted
 shifted-moved xs at d last e some inside v = rw (← e) (set-moved xs at last (omega arith) (omega arith) v)

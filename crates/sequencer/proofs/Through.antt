@@ -1,207 +1,171 @@
--- One frame through code that is loaded, instruction by instruction. `Executing` says where the loop stands: its arrays and its two counts are those of a step that has executed the
--- instructions before it, and behind the bits written stands what stood there. Each instruction leads on by what `execute` makes of it.
-use mathlib.Core.Path.{_≡_, refl, ap, _∙_}
+-- One frame through code that is loaded, instruction by instruction. What stands in the lent arrays behind n instructions is what a step has made of
+-- them; each instruction finds its operands written and its registers there, as it is fine behind those before it, and leads on by `execute`.
+use mathlib.Core.Path.{_≡_, refl, sym, ap, _∙_}
 use mathlib.Core.Bool.{Bool, true, false, not, _&&_}
 use mathlib.Core.List.{List, [], _∷_, _++_}
-use Prim.Native.Nat.{ℕ, suc, _+_, _-_, _*_, _≤_, _<_}
+use Prim.Native.Nat.{ℕ, suc, _+_, _-_, _≤_, _<_}
 use native.Mathlib.Numerals.{add-one}
 use native.Mathlib.Omega.{arith}
 use borrow.Author.Tests.{ne-eqb}
 use lib.Dec.{eqb}
-use lib.ListN.{length, getD, set, length-append, length-set, length-take, length-drop, List·getD-append}
-use lib.Seq.{getD-set-other}
-use Rattle.ground.specs.Buffers.{over}
+use lib.ListN.{length, getD, take, drop, set, length-take, take-append-drop}
+use lib.Seq.{take-suc-set, drop-set-lt, getD-take, drop-drop}
 use Rattle.ground.specs.Frames.{hasFlag}
-use Rattle.ground.specs.Limits.{limits}
-use Rattle.ground.proofs.Buffers.{over-length, over-more}
-use Rattle.sequencer.specs.Bits.{Counter, none, count, next, isOn}
 use Rattle.code.specs.Code.{Instruction, One, Flag, Nand, Reach, Later, Code}
 use Rattle.code.specs.Loading.{reachOf, distanceOf, reachesIn, distanceIn}
-use Rattle.code.specs.Inner.Rows.{rowOfInstruction}
-use Rattle.sequencer.specs.Registers.{Working, start, bit, shifted, execute, executed, counterOf, kept}
-use Rattle.sequencer.specs.declared.registers.Registers.{Registers}
-use Rattle.code.specs.Programs.{instructionAt, codeIn}
-use Rattle.sequencer.specs.Inner.Through.{Fits, Leaves}
-use Rattle.code.proofs.Counting.{reaches-more, distance-more}
+use Rattle.code.specs.Programs.{instructionAt, codeIn, countIn, codeAs}
+use Rattle.code.proofs.Counting.{good-instructions}
 use Rattle.code.proofs.Flat.{code-length, fine-at}
-use Rattle.code.proofs.Instructions.{is-one, is-flag, is-nand, is-reach, is-later}
+use Rattle.sequencer.specs.Bits.{Counter, none, count, next, isOn}
+use Rattle.sequencer.specs.Registers.{Working, start, shifted, execute, executed, counterOf, kept}
+use Rattle.sequencer.specs.Stepping.{advancedBy}
+use Rattle.sequencer.specs.Inner.Through.{Lent, lent, standsAt, Served, CanExecute, Executes, Fits, Leaves}
+use Rattle.sequencer.specs.declared.frame.Taken.{Taken}
 
--- The instruction at a place, by its code byte
-
-module _ (numbers : List ℕ) (n : ℕ) where
-  pub at-one : getD numbers (4 * n) 0 ≡ 0x01 → instructionAt numbers n ≡ One
-  unfolding instructionAt
-  at-one e = is-one _ _ _ _ e
-
-  pub at-flag : getD numbers (4 * n) 0 ≡ 0x02 → instructionAt numbers n ≡ Flag (getD numbers (4 * n + 1) 0)
-  unfolding instructionAt
-  at-flag e = is-flag _ _ _ _ e
-
-  pub at-nand : getD numbers (4 * n) 0 ≡ 0x03 → instructionAt numbers n ≡ Nand (getD numbers (4 * n + 1) 0) (getD numbers (4 * n + 2) 0)
-  unfolding instructionAt
-  at-nand e = is-nand _ _ _ _ e
-
-  pub at-reach : getD numbers (4 * n) 0 ≡ 0x04 → instructionAt numbers n ≡ Reach (getD numbers (4 * n + 1) 0) (getD numbers (4 * n + 2) 0) (getD numbers (4 * n + 3) 0)
-  unfolding instructionAt
-  at-reach e = is-reach _ _ _ _ e
-
-  pub at-later : (getD numbers (4 * n) 0 ≡ 0x01 → ⊥) → (getD numbers (4 * n) 0 ≡ 0x02 → ⊥) → (getD numbers (4 * n) 0 ≡ 0x03 → ⊥) → (getD numbers (4 * n) 0 ≡ 0x04 → ⊥) → instructionAt numbers n ≡ Later (getD numbers (4 * n + 1) 0) (getD numbers (4 * n + 2) 0)
-  unfolding instructionAt
-  at-later a b c d = is-later _ _ _ _ a b c d
-
--- One instruction more
-
-executed-more : (frame : ℕ) (is : Code) (i : Instruction) (s : Working) → executed frame (is ++ i ∷ []) s ≡ execute frame (executed frame is s) i
-unfolding executed
-executed-more frame [] i s = refl
-executed-more frame (j ∷ is) i s = executed-more frame is i (execute frame s j)
-
--- a line that moves on leaves as many bits
-shifted-length : (delays : List Bool) (at d : ℕ) (newest : Bool) → 1 ≤ d → at + d ≤ length delays → length (shifted delays at d newest) ≡ length delays
-unfolding shifted
-shifted-length delays at d newest some inside = simp (length-append, length-take, length-drop) (omega arith)
+-- One instruction
 
 -- the bit is 1 unless "none", which is kept as 0
 is-on : (m : Counter) → not (eqb (kept m) 0) ≡ isOn m
 is-on none = refl
 is-on (count n) = rw (ne-eqb (suc n) 0 (omega arith))
 
-module _ (numbers : List ℕ) (frame : ℕ) (r : Registers) (bits₀ : List Bool) where
-  -- what a step has done behind n instructions
-  abbrev done : ℕ → Working
-  done n = executed frame (codeIn numbers n) (start r)
+module _ (frame n : ℕ) (t : Taken) (counters : List ℕ) (delays bits : List Bool) where
+  abbrev before : Lent
+  before = lent counters delays bits
 
-  pub record Executing (n used taken : ℕ) (counters : List ℕ) (delays bits : List Bool) : Type 0 where
-    pub own-counters : counters ≡ done n .counters
-    pub own-used : used ≡ done n .used
-    pub own-delays : delays ≡ done n .delays
-    pub own-taken : taken ≡ done n .taken
-    pub own-bits : bits ≡ over (done n .bits) bits₀
-    pub so-many : length (done n .bits) ≡ n
-    pub reaches : used ≡ reachesIn (codeIn numbers n)
-    pub distance : taken ≡ distanceIn (codeIn numbers n)
-    pub all-counters : length counters ≡ length (r .counters)
-    pub all-delays : length delays ≡ length (r .delays)
-    pub inside : n ≤ length bits₀
+  -- A bit written behind n others is one more, and those behind it stay
+  executes : (i : Instruction) → Served i n t before → (b : Bool) (t′ : Taken) (counters′ : List ℕ) (delays′ : List Bool)
+      → execute frame (standsAt n t before) i
+      ≡ record { bits = take n bits ++ b ∷ []; counters = counters′; used = t′ .counters; delays = delays′; taken = t′ .delays }
+      → Executes i frame n t t′ before (lent counters′ delays′ (set bits n b))
+  executes i f b t′ counters′ delays′ e =
+      let wrote : take (n + 1) (set bits n b) ≡ take n bits ++ b ∷ [] = rw (add-one n) (take-suc-set bits n b (f .place)) in
+      record { stands = rw wrote (sym e); rest = drop-set-lt (n + 1) bits n b (omega arith) }
 
-  pub walk-first : Executing 0 0 0 (r .counters) (r .delays) bits₀
-  unfolding codeIn executed reachesIn distanceIn
-  walk-first =
-      record {
-        own-counters = refl;
-        own-used = refl;
-        own-delays = refl;
-        own-taken = refl;
-        own-bits = refl;
-        so-many = refl;
-        reaches = refl;
-        distance = refl;
-        all-counters = refl;
-        all-delays = refl;
-        inside = omega arith;
-      }
+  pub executes-one : Served One n t before → Executes One frame n t t before (lent counters delays (set bits n true))
+  unfolding execute
+  executes-one f = executes One f true t counters delays refl
 
-  module _ {n used taken : ℕ} {counters : List ℕ} {delays bits : List Bool} (w : Executing n used taken counters delays bits) where
-    pub bits-length : length bits ≡ length bits₀
-    bits-length = ap length (w .own-bits) ∙ over-length (done n .bits) bits₀ (omega (arith, w .so-many, w .inside))
+  pub executes-flag : (k : ℕ) → Served (Flag k) n t before → (b : Bool) → b ≡ hasFlag k frame
+      → Executes (Flag k) frame n t t before (lent counters delays (set bits n b))
+  unfolding execute
+  executes-flag k f b own = executes (Flag k) f b t counters delays (rw own)
 
-    -- a bit that is written is read
-    bit-read : (i : ℕ) → i < n → getD bits i false ≡ bit (done n) i
-    bit-read i h =
-        let l : i < length (done n .bits) = omega (arith, w .so-many) in
-        ap (λ (bs : List Bool). getD bs i false) (w .own-bits) ∙ List·getD-append (done n .bits) _ false i l
+  -- a bit that is written is read
+  bit-read : (k : ℕ) → k < n → getD (take n bits) k false ≡ getD bits k false
+  bit-read k h = getD-take n bits k false h
 
-    module _ (k : ℕ) (f : Fits numbers k r bits₀) (h : n < k) (i : Instruction) (e : instructionAt numbers n ≡ i) where
-      -- What the instruction finds: its operands are written, its registers are there
-      pub record Here : Type 0 where
-        pub flag : rowOfInstruction i .flag ≤ limits .flag
-        pub earlier : rowOfInstruction i .needs ≤ n
-        pub width : rowOfInstruction i .width ≤ limits .width
-        pub some : rowOfInstruction i .later ≤ distanceOf i
-        pub own-reach : used + reachOf i ≤ length counters
-        pub own-line : taken + distanceOf i ≤ length delays
-        pub own-place : n < length bits
+  module _ (i j : ℕ) where
+    pub executes-nand : Served (Nand i j) n t before → (b : Bool) → b ≡ not (getD bits i false && getD bits j false)
+        → Executes (Nand i j) frame n t t before (lent counters delays (set bits n b))
+    unfolding execute
+    executes-nand f b own =
+        executes (Nand i j) f b t counters delays (rw (own, bit-read i (omega (arith, f .earlier)), bit-read j (omega (arith, f .earlier))))
 
-      pub here : Here
-      here =
-          let fine = rw e at (fine-at numbers k n (f .sound .good) h) in
-          record {
+    pub executes-reach : (w : ℕ) → Served (Reach i j w) n t before
+        → (p m : ℕ) → p ≡ t .counters → m ≡ kept (next w (getD bits i false) (getD bits j false) (counterOf (getD counters p 0)))
+        → Executes (Reach i j w) frame n t (record { counters = p + 1; delays = t .delays }) before
+        (lent (set counters p m) delays (set bits n (not (eqb m 0))))
+    unfolding execute
+    executes-reach w f p m first own =
+        let q = next w (getD bits i false) (getD bits j false) (counterOf (getD counters (t .counters) 0)) in
+        let is : m ≡ kept q = rw first at own in
+        let on : not (eqb m 0) ≡ isOn q = rw is (is-on q) in
+        rw first
+        (executes (Reach i j w) f (not (eqb m 0)) _ (set counters (t .counters) m) delays
+        (rw (on, is, bit-read i (omega (arith, f .earlier)), bit-read j (omega (arith, f .earlier)))))
+
+    pub executes-later : Served (Later i j) n t before → (p d : ℕ) → p ≡ t .delays → d ≡ j
+        → Executes (Later i j) frame n t (record { counters = t .counters; delays = t .delays + j }) before
+        (lent counters (shifted delays (t .delays) d (getD bits i false)) (set bits n (getD delays p false)))
+    unfolding execute
+    executes-later f p d first own =
+        rw (first, own) (executes (Later i j) f (getD delays (t .delays) false) _ counters _ (rw (bit-read i (omega (arith, f .earlier)))))
+
+-- Instructions in turn
+
+executed-more : (frame : ℕ) (is : Code) (i : Instruction) (s : Working) → executed frame (is ++ i ∷ []) s ≡ execute frame (executed frame is s) i
+unfolding executed
+executed-more frame [] i s = refl
+executed-more frame (j ∷ is) i s = executed-more frame is i (execute frame s j)
+
+-- each takes its counter and its delay bits
+
+module _ (frame : ℕ) where
+  execute-takes : (s : Working) (i : Instruction) → (execute frame s i .used ≡ s .used + reachOf i) × (execute frame s i .taken ≡ s .taken + distanceOf i)
+  unfolding execute
+  execute-takes s One = omega arith
+  execute-takes s (Flag k) = omega arith
+  execute-takes s (Nand i j) = omega arith
+  execute-takes s (Reach i j w) = omega arith
+  execute-takes s (Later i d) = omega arith
+
+  executed-takes : (is : Code) (s : Working) → (executed frame is s .used ≡ s .used + reachesIn is) × (executed frame is s .taken ≡ s .taken + distanceIn is)
+  unfolding executed reachesIn distanceIn
+  executed-takes [] s = omega arith
+  executed-takes (i ∷ is) s = omega (arith, execute-takes s i, executed-takes is (execute frame s i))
+
+-- Arrays that are as long as before
+pub record SameSize (l l′ : Lent) : Type 0 where
+  pub counters : length (l′ .registers .counters) ≡ length (l .registers .counters)
+  pub delays : length (l′ .registers .delays) ≡ length (l .registers .delays)
+  pub bits : length (l′ .bits) ≡ length (l .bits)
+
+module _ (numbers : List ℕ) (frame : ℕ) (l₀ : Lent) (f : Fits numbers l₀) where
+  -- Where the loop stands behind n instructions
+  pub record Executing (n : ℕ) (t : Taken) (l : Lent) : Type 0 where
+    pub stands : standsAt n t l ≡ executed frame (codeIn numbers n) (start (l₀ .registers))
+    pub rest : drop n (l .bits) ≡ drop n (l₀ .bits)
+    pub size : SameSize l₀ l
+
+  pub through-first : Executing 0 (record { counters = 0; delays = 0 }) l₀
+  unfolding codeIn executed
+  through-first = record { stands = refl; rest = refl; size = record { counters = refl; delays = refl; bits = refl } }
+
+  module _ {n : ℕ} {t : Taken} {l : Lent} (w : Executing n t l) where
+    pub can-execute : n < countIn numbers → CanExecute numbers n t l
+    can-execute h =
+        let fine = fine-at numbers (countIn numbers) n (f .sound .good) h in
+        let (used, taken) = executed-takes frame (codeIn numbers n) (start (l₀ .registers)) in
+        let own-used : t .counters ≡ reachesIn (codeIn numbers n) = omega (arith, ap (λ s. s .used) (w .stands)) in
+        let own-taken : t .delays ≡ distanceIn (codeIn numbers n) = omega (arith, ap (λ s. s .taken) (w .stands)) in
+        record {
+          inside = omega (arith, f .sound .whole);
+          finds = record {
             flag = fine .flag;
             earlier = omega (arith, fine .earlier, code-length numbers n);
             width = fine .width;
             some = fine .some;
-            own-reach = omega (arith, fine .counters, w .reaches, f .counters, w .all-counters);
-            own-line = omega (arith, fine .delays, w .distance, f .delays, w .all-delays);
-            own-place = omega (arith, fine .instructions, code-length numbers n, bits-length, f .room);
-          }
+            counter = omega (arith, fine .counters, f .counters, w .size);
+            line = omega (arith, fine .delays, f .delays, w .size);
+            place = omega (arith, fine .instructions, code-length numbers n, w .size, f .room);
+          };
+        }
 
-      -- What it leads to, whichever it is
-      more : (b : Bool) (used′ taken′ : ℕ) (counters′ : List ℕ) (delays′ : List Bool)
-          → execute frame (done n) i ≡ record { bits = done n .bits ++ b ∷ []; counters = counters′; used = used′; delays = delays′; taken = taken′ }
-          → used′ ≡ used + reachOf i → taken′ ≡ taken + distanceOf i → length counters′ ≡ length counters → length delays′ ≡ length delays
-          → Executing (n + 1) used′ taken′ counters′ delays′ (set bits n b)
-      unfolding codeIn
-      more b used′ taken′ counters′ delays′ x u t c d =
-          let s : done (n + 1) ≡ record { bits = done n .bits ++ b ∷ []; counters = counters′; used = used′; delays = delays′; taken = taken′ } = rw (add-one n, executed-more, e) x in
-          let room : n < length bits₀ = omega (arith, here .own-place, bits-length) in
-          record {
-            own-counters = rw s;
-            own-used = rw s;
-            own-delays = rw s;
-            own-taken = rw s;
-            own-bits = rw (s, w .own-bits) (over-more (done n .bits) bits₀ n b (w .so-many) room);
-            so-many = rw s (simp length-append (omega (arith, w .so-many)));
-            reaches = rw (u, add-one n, reaches-more, e) (omega (arith, w .reaches));
-            distance = rw (t, add-one n, distance-more, e) (omega (arith, w .distance));
-            all-counters = c ∙ w .all-counters;
-            all-delays = d ∙ w .all-delays;
-            inside = omega arith;
-          }
+    pub through-more : (t′ : Taken) (l′ : Lent) → Executes (instructionAt numbers n) frame n t t′ l l′ → SameSize l l′ → Executing (n + 1) t′ l′
+    unfolding codeIn
+    through-more t′ l′ e s =
+        record {
+          stands = e .stands ∙ rw (w .stands, add-one n) (sym (executed-more frame (codeIn numbers n) (instructionAt numbers n) (start (l₀ .registers))));
+          rest = e .rest ∙ rw (← drop-drop 1 n (l .bits), ← drop-drop 1 n (l₀ .bits)) (ap (drop 1) (w .rest));
+          size = record { counters = s .counters ∙ w .size .counters; delays = s .delays ∙ w .size .delays; bits = s .bits ∙ w .size .bits };
+        }
 
-    module _ (k : ℕ) (f : Fits numbers k r bits₀) (h : n < k) where
-      pub walk-one : instructionAt numbers n ≡ One → Executing (n + 1) used taken counters delays (set bits n true)
-      unfolding execute
-      walk-one e =
-          more k f h One e true used taken counters delays (rw (← w .own-counters, ← w .own-used, ← w .own-delays, ← w .own-taken)) (omega arith) (omega arith) refl refl
+    -- there is room for a bit of each instruction
+    pub all-written : countIn numbers ≤ length (l .bits)
+    all-written =
+        omega (arith, good-instructions (codeAs numbers) (f .sound .good), code-length numbers (countIn numbers), w .size .bits, f .room)
 
-      pub walk-flag : (m : ℕ) → instructionAt numbers n ≡ Flag m → Executing (n + 1) used taken counters delays (set bits n (hasFlag m frame))
-      unfolding execute
-      walk-flag m e =
-          more k f h (Flag m) e (hasFlag m frame) used taken counters delays (rw (← w .own-counters, ← w .own-used, ← w .own-delays, ← w .own-taken)) (omega arith) (omega arith) refl refl
-
-      module _ (i j : ℕ) where
-        pub walk-nand : instructionAt numbers n ≡ Nand i j → (b : Bool) → b ≡ not (getD bits i false && getD bits j false) → Executing (n + 1) used taken counters delays (set bits n b)
-        unfolding execute
-        walk-nand e b own =
-            let t = here k f h (Nand i j) e in
-            let is : b ≡ not (bit (done n) i && bit (done n) j) = own ∙ rw (bit-read i (omega (arith, t .earlier)), bit-read j (omega (arith, t .earlier))) in
-            more k f h (Nand i j) e b used taken counters delays (rw (← w .own-counters, ← w .own-used, ← w .own-delays, ← w .own-taken, is)) (omega arith) (omega arith) refl refl
-
-        pub walk-reach : (width : ℕ) → instructionAt numbers n ≡ Reach i j width → (m : ℕ) → m ≡ kept (next width (getD bits i false) (getD bits j false) (counterOf (getD counters used 0))) → Executing (n + 1) (used + 1) taken (set counters used m) delays (set bits n (not (eqb m 0)))
-        unfolding execute
-        walk-reach width e m own =
-            let t = here k f h (Reach i j width) e in
-            let q = next width (bit (done n) i) (bit (done n) j) (counterOf (getD counters used 0)) in
-            let is : m ≡ kept q = own ∙ rw (bit-read i (omega (arith, t .earlier)), bit-read j (omega (arith, t .earlier))) in
-            let on : not (eqb m 0) ≡ isOn q = rw is (is-on q) in
-            more k f h (Reach i j width) e (not (eqb m 0)) (used + 1) taken (set counters used m) delays (rw (on, is, ← w .own-counters, ← w .own-used, ← w .own-delays, ← w .own-taken)) (omega arith) (omega arith) (length-set counters used m) refl
-
-        pub walk-later : instructionAt numbers n ≡ Later i j → (p d : ℕ) → p ≡ taken → d ≡ j → let oldest = getD delays p false in Executing (n + 1) used (taken + j) counters (shifted delays taken d (getD (set bits n oldest) i false)) (set bits n oldest)
-        unfolding execute
-        walk-later e p d first own =
-            let t = here k f h (Later i j) e in
-            let oldest = getD delays taken false in
-            let is : getD (set bits n oldest) i false ≡ bit (done n) i = getD-set-other bits n i oldest false (omega (arith, t .earlier)) ∙ bit-read i (omega (arith, t .earlier)) in
-            rw (own, first)
-            (more k f h (Later i j) e oldest used (taken + j) counters _ (rw (is, ← w .own-counters, ← w .own-used, ← w .own-delays, ← w .own-taken)) (omega arith) (omega arith) refl (shifted-length delays taken j _ (omega (arith, t .some)) (omega (arith, t .own-line))))
-
-  -- Once all instructions are done
-  pub walk-all : {n used taken : ℕ} {counters : List ℕ} {delays bits : List Bool} → Executing n used taken counters delays bits → (k : ℕ) → n ≡ k → 1 ≤ k → Leaves (codeIn numbers k) (executed frame (codeIn numbers k) (start r)) bits₀ counters delays bits (getD bits (k - 1) false)
-  walk-all {n} w k e some =
-      rw (← e)
-      (record {
-        own-counters = w .own-counters;
-        own-delays = w .own-delays;
-        own-bits = w .own-bits;
-        own-output = rw (code-length numbers n) (bit-read w (n - 1) (omega arith));
-      })
+    -- Once all instructions are done
+    pub through-all : n ≡ countIn numbers → (p : ℕ) → p + 1 ≡ n → Leaves (codeAs numbers) frame (getD (l .bits) p false) l₀ l
+    unfolding advancedBy
+    through-all e p last =
+        let own = sym (w .stands) in
+        let before : n - 1 ≡ p = omega arith in
+        let bit : getD (take n (l .bits)) p false ≡ getD (l .bits) p false = getD-take n (l .bits) p false (omega arith) in
+        let long : length (take n (l .bits)) ≡ n = rw length-take (omega (arith, all-written)) in
+        rw (← e)
+        (record {
+          advanced = rw (own, code-length numbers n, before, bit);
+          own-bits = rw (own, long, ← w .rest, take-append-drop);
+        })

@@ -1,5 +1,5 @@
--- Each public function's statement allows one answer: two results that it allows of the same arguments are equal, and so is every buffer that is lent to be written. `Post` is
--- the function's own `ensures`.
+-- Each public function's statement allows one answer: two results that it allows of the same arguments are equal, and so is every buffer that is lent to be
+-- written. `Post` is the function's own `ensures`.
 use mathlib.Core.Path.{_≡_, sym, _∙_}
 use Rattle.sequencer.proofs.registers.Registers.advance.Reads as advance
 use Rattle.sequencer.proofs.registers.Registers.fresh.Reads as fresh

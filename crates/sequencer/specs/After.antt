@@ -1,4 +1,5 @@
--- What the registers hold after a clip, twice: by what the bits mean, and step by step from fresh ones. `proofs/After.antt` shows that the two are the same.
+-- What the registers hold after a clip, twice: by what the bits mean, and step by step from fresh ones.
+-- `proofs/After.antt` shows that the two are the same.
 use mathlib.Core.Bool.{Bool}
 use mathlib.Core.List.{List, [], _∷_, _++_}
 use Prim.Native.Nat.{ℕ, zero, suc}

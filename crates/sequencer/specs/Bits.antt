@@ -1,6 +1,8 @@
--- What each instruction's bit means on the clip read so far. Frames are read from the last to the first, so a clip grows at its head, and what the sequencer knows after
--- a clip is a function of that list. Document 01: "04 i j w REACH: if j is 1, the counter becomes 0; else if i is 1, the counter isn't "none" and is below w, it rises by
--- one; else it becomes "none". The bit is 1 unless "none"" and "05 i d LATER: bit i as it was d frames ago in reading order; 0 if there were fewer".
+-- What each instruction's bit means on the clip read so far. Frames are read from the last to the first, so a clip
+-- grows at its head, and what the sequencer knows after a clip is a function of that list. Document 01: "04 i j w
+-- REACH: if j is 1, the counter becomes 0; else if i is 1, the counter isn't "none" and is below w, it rises by one;
+-- else it becomes "none". The bit is 1 unless "none"" and "05 i d LATER: bit i as it was d frames ago in reading order;
+-- 0 if there were fewer".
 use mathlib.Core.Path.{_≡_}
 use mathlib.Core.Bool.{Bool, true, false, not, cond, _&&_}
 use mathlib.Core.List.{List, [], _∷_, _++_}
@@ -69,7 +71,8 @@ pub record Reached (i j : Wire) (c : Clip) (p : ℕ) : Type 0 where
   pub there : j (drop p c) ≡ true
   pub before : (q : ℕ) → q < p → i (drop q c) ≡ true
 
--- What REACH's counter says of a clip: the smallest place up to w that is reached, else "none" as there is no such place
+-- What REACH's counter says of a clip: the smallest place up to w that is reached, else "none" as there is no such
+-- place
 abbrev pub Says : ℕ → Wire → Wire → Clip → Counter → Type 0
 Says w i j c none = (p : ℕ) → p ≤ w → Reached i j c p → ⊥
 Says w i j c (count p) = (p ≤ w) × Reached i j c p × ((q : ℕ) → Reached i j c q → p ≤ q)

@@ -1,5 +1,6 @@
--- Registers and one step. Document 01: "Registers: sixteen counters and 256 delay bits. Instructions take counters and delay bits in code order, a LATER's bits oldest first;
--- unused registers stay as they are .. Fresh registers: every counter "none", every delay bit 0." A counter is kept as a number: 0 for "none", else one more than its count.
+-- Registers and one step. Document 01: "Registers: sixteen counters and 256 delay bits. Instructions take counters and
+-- delay bits in code order, a LATER's bits oldest first; unused registers stay as they are .. Fresh registers: every
+-- counter "none", every delay bit 0." A counter is kept as a number: 0 for "none", else one more than its count.
 use mathlib.Core.Bool.{Bool, true, false, not, _&&_}
 use mathlib.Core.List.{List, [], _∷_, _++_}
 use Prim.Native.Nat.{ℕ, zero, suc, _+_, _-_}
@@ -42,7 +43,14 @@ bit s i = getD (s .bits) i false
 
 -- One bit more, and no register
 abbrev pub wrote : Working → Bool → Working
-wrote s b = record { bits = s .bits ++ b ∷ []; counters = s .counters; used = s .used; delays = s .delays; taken = s .taken }
+wrote s b =
+    record {
+      bits = s .bits ++ b ∷ [];
+      counters = s .counters;
+      used = s .used;
+      delays = s .delays;
+      taken = s .taken;
+    }
 
 -- REACH takes the next counter: what it becomes decides the bit
 abbrev pub reached : Working → Counter → Working

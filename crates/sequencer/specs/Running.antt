@@ -1,5 +1,6 @@
--- The run. Document 01: "Run: code, 13, 16; the run writes one byte a frame", "13 clip empty or over 65,535 frames", "16 output buffer shorter than the answer", "starts at the
--- buffer's first byte, and the bytes behind the answer stay". The byte of a frame is the output after the clip from that frame to its end.
+-- The run. Document 01: "Run: code, 13, 16; the run writes one byte a frame", "13 clip empty or over 65,535 frames",
+-- "16 output buffer shorter than the answer", "starts at the buffer's first byte, and the bytes behind the answer
+-- stay". The byte of a frame is the output after the clip from that frame to its end.
 use mathlib.Core.Bool.{Bool, cond, _||_}
 use mathlib.Core.List.{List, [], _∷_}
 use Prim.Native.Nat.{ℕ}

@@ -1,5 +1,5 @@
--- The step. Document 01: "The sequencer takes one frame at a time .. and hands its registers back", "A step refuses code as the
--- run does and then hands the registers back unchanged."
+-- The step. Document 01: "The sequencer takes one frame at a time .. and hands its registers back", "A step refuses
+-- code as the run does and then hands the registers back unchanged."
 use Prim.Native.Nat.{ℕ}
 use Rattle.reading.specs.InTurn.{AllRead, items, refused}
 use Rattle.code.specs.Code.{Instruction, Code}

@@ -1,5 +1,6 @@
--- What is judged of an instruction as numbers, so that the code judges all five alike. Contracts of inner functions cite it; `load_code` says nothing of it. Operands are
--- earlier instructions where as many stand before as the larger operand needs, and a distance is 0 where it is below 1 and the instruction is a LATER.
+-- What is checked of an instruction as numbers, so that the code checks all five alike. Contracts of inner functions
+-- cite it; `load_code` says nothing of it. Operands are earlier instructions where as many stand before as the larger
+-- operand needs, and a distance is 0 where it is below 1 and the instruction is a LATER.
 use mathlib.Core.Bool.{Bool, cond, _||_}
 use Prim.Native.Nat.{ℕ, _+_, max}
 use lib.Dec.{ltb}
@@ -26,22 +27,24 @@ rowOfInstruction (Later i d) = instructionRow 0 (i + 1) 0 0 1 d
 
 -- A width or a distance out of range
 unfoldable pub badRow : InstructionRow → Bool
-badRow instructionRow =
-    ltb (limits .width) (instructionRow .width) || (ltb (instructionRow .distance) (instructionRow .later) || ltb (limits .distance) (instructionRow .distance))
+badRow row =
+    ltb (limits .width) (row .width)
+    || (ltb (row .distance) (row .later) || ltb (limits .distance) (row .distance))
 
 -- The counts with a row more
 unfoldable pub countedRow : CodeCounts → InstructionRow → CodeCounts
-countedRow c instructionRow =
+countedRow c row =
     record {
       instructions = c .instructions + 1;
-      reaches = c .reaches + instructionRow .reach;
-      distance = c .distance + instructionRow .distance;
+      reaches = c .reaches + row .reach;
+      distance = c .distance + row .distance;
     }
 
--- A row judged: 5, 10, 11, 12 in turn
+-- A row checked: 5, 10, 11, 12 in turn
 unfoldable pub checkRow : CodeCounts → ℕ → InstructionRow → CheckedInstruction
-checkRow c at instructionRow =
-    cond (ltb (limits .flag) (instructionRow .flag)) (CheckedInstruction.Refused (Refusal.FlagTooLarge at))
-    (cond (ltb (c .instructions) (instructionRow .needs)) (CheckedInstruction.Refused (Refusal.NotEarlier at))
-    (cond (badRow instructionRow) (CheckedInstruction.Refused (Refusal.BadWidth at))
-    (cond (codeTooLarge (countedRow c instructionRow)) (CheckedInstruction.Refused (Refusal.CodeTooLarge at)) (CheckedInstruction.Next (countedRow c instructionRow)))))
+checkRow c at row =
+    cond (ltb (limits .flag) (row .flag)) (CheckedInstruction.Refused (Refusal.FlagTooLarge at))
+    (cond (ltb (c .instructions) (row .needs)) (CheckedInstruction.Refused (Refusal.NotEarlier at))
+    (cond (badRow row) (CheckedInstruction.Refused (Refusal.BadWidth at))
+    (cond (codeTooLarge (countedRow c row)) (CheckedInstruction.Refused (Refusal.CodeTooLarge at))
+    (CheckedInstruction.Next (countedRow c row)))))

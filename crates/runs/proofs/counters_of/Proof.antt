@@ -2,15 +2,16 @@
 use mathlib.Core.Path.{_≡_}
 use Prim.Native.Nat.{_-_}
 use borrow.Author.Needs.{needs}
+use Rattle.ground.specs.Limits.{limits}
 use lib.ListN.{length}
 use Rattle.runs.proofs.counters_of.Statement.{statement}
 use Rattle.runs.proofs.counters_of.Tie as tie
 
 abbrev Inv-loop : tie.InvT-loop
-Inv-loop bytes counters₀ n₀ counters n = length counters ≡ 16
+Inv-loop bytes counters₀ n₀ counters n = length counters ≡ limits .counters
 
 abbrev μ-loop : tie.MeasureT-loop
-μ-loop bytes counters₀ n₀ counters n = 16 - n
+μ-loop bytes counters₀ n₀ counters n = limits .counters - n
 
 loop-holds : tie.Need-loop-holds Inv-loop μ-loop
 loop-holds c = search needs

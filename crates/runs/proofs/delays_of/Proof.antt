@@ -2,15 +2,16 @@
 use mathlib.Core.Path.{_≡_}
 use Prim.Native.Nat.{_-_}
 use borrow.Author.Needs.{needs}
+use Rattle.ground.specs.Limits.{limits}
 use lib.ListN.{length}
 use Rattle.runs.proofs.delays_of.Statement.{statement}
 use Rattle.runs.proofs.delays_of.Tie as tie
 
 abbrev Inv-loop : tie.InvT-loop
-Inv-loop bytes delays₀ n₀ delays n = length delays ≡ 256
+Inv-loop bytes delays₀ n₀ delays n = length delays ≡ limits .delays
 
 abbrev μ-loop : tie.MeasureT-loop
-μ-loop bytes delays₀ n₀ delays n = 256 - n
+μ-loop bytes delays₀ n₀ delays n = limits .delays - n
 
 loop-holds : tie.Need-loop-holds Inv-loop μ-loop
 loop-holds c = search needs

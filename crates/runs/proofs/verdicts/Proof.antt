@@ -23,7 +23,12 @@ array-share-prefix-code c =
 
 slice-aggregate-run : tie.Need-slice-aggregate-run
 slice-aggregate-run c =
-    omega (arith, array-share-prefix-code (c .before), length-take (c .before .before .emitted .given .0 .0) (c .before .before .before .before .before .emit .last .1 .0))
+    omega (
+      arith,
+      array-share-prefix-code (c .before),
+      length-take (c .before .before .emitted .given .0 .0)
+          (c .before .before .before .before .before .emit .last .1 .0),
+    )
 
 run-requires : tie.Need-run-requires
 run-requires c κs = search needs

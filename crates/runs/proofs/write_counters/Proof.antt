@@ -1,14 +1,15 @@
 -- `runs::write_counters` is safe and ends.
 use Prim.Native.Nat.{_≤_, _-_}
 use borrow.Author.Needs.{needs}
+use Rattle.ground.specs.Limits.{limits}
 use Rattle.runs.proofs.write_counters.Statement.{statement}
 use Rattle.runs.proofs.write_counters.Tie as tie
 
 abbrev Inv-loop : tie.InvT-loop
-Inv-loop counters n₀ n = n ≤ 16
+Inv-loop counters n₀ n = n ≤ limits .counters
 
 abbrev μ-loop : tie.MeasureT-loop
-μ-loop counters n₀ n = 16 - n
+μ-loop counters n₀ n = limits .counters - n
 
 slice-aggregate-write : tie.Need-slice-aggregate-write Inv-loop μ-loop
 slice-aggregate-write c = search needs

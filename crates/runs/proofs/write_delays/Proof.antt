@@ -1,14 +1,15 @@
 -- `runs::write_delays` is safe and ends.
 use Prim.Native.Nat.{_≤_, _-_}
 use borrow.Author.Needs.{needs}
+use Rattle.ground.specs.Limits.{limits}
 use Rattle.runs.proofs.write_delays.Statement.{statement}
 use Rattle.runs.proofs.write_delays.Tie as tie
 
 abbrev Inv-loop : tie.InvT-loop
-Inv-loop delays word₀ n₀ word n = n ≤ 256
+Inv-loop delays word₀ n₀ word n = n ≤ limits .delays
 
 abbrev μ-loop : tie.MeasureT-loop
-μ-loop delays word₀ n₀ word n = 256 - n
+μ-loop delays word₀ n₀ word n = limits .delays - n
 
 slice-aggregate-write : tie.Need-slice-aggregate-write Inv-loop μ-loop
 slice-aggregate-write c = search needs

@@ -29,7 +29,8 @@ widths : (c : tie.After-bad-width) →
     let a = c .before .before .before .before .before .before .args in
     checkRow (a .counts) (a .at) (a .row)
     ≡ cond (c .bad-width .result) (CheckedInstruction.Refused (Refusal.BadWidth (a .at)))
-    (cond (codeTooLarge (countedRow (a .counts) (a .row))) (CheckedInstruction.Refused (Refusal.CodeTooLarge (a .at))) (CheckedInstruction.Next (countedRow (a .counts) (a .row))))
+    (cond (codeTooLarge (countedRow (a .counts) (a .row))) (CheckedInstruction.Refused (Refusal.CodeTooLarge (a .at)))
+    (CheckedInstruction.Next (countedRow (a .counts) (a .row))))
 unfolding checkRow
 widths c =
     let a = c .before .before .before .before .before .before .args in

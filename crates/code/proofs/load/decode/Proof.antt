@@ -61,10 +61,14 @@ enum-known-more : tie.Need-enum-known-more Inv-loop μ-loop
 enum-known-more c = search needs
 
 -- an instruction that is not refused has room
-is-next : (c : tie.After-more Inv-loop μ-loop) → CheckedInstruction.Next (c .more .given .0 .0) ≡ checkRow (c .before .before .before .before .before .before .before .before .loop .counts) (c .before .before .before .before .before .before .before .before .loop .at) (c .before .before .before .row-of .result)
+is-next : (c : tie.After-more Inv-loop μ-loop) →
+    let l = c .before .before .before .before .before .before .before .before .loop in
+    CheckedInstruction.Next (c .more .given .0 .0) ≡ checkRow (l .counts) (l .at) (c .before .before .before .row-of .result)
 is-next c = sym (c .more .given .1) ∙ c .before .before .check .ensures
 
-room : (c : tie.After-more Inv-loop μ-loop) → c .before .before .before .before .before .before .before .before .loop .counts .instructions + 1 ≤ limits .instructions
+room : (c : tie.After-more Inv-loop μ-loop) →
+    let l = c .before .before .before .before .before .before .before .before .loop in
+    l .counts .instructions + 1 ≤ limits .instructions
 room c =
     let d = c .before .before .before .before .before in
     turn-room _ _ _ _ (d .before .before .before .loop .inv) _ _ _ _ _ (is-item d) _ (c .before .before .before .row-of .ensures) _ _ (is-next c)
@@ -114,7 +118,9 @@ loop-less c = let d = c .before .before .before .before .before .before .before 
 
 loop-again : tie.Need-loop-again Inv-loop μ-loop
 loop-again c = let d = c .before .before .before .before .before .before .before in
-    turn-more _ _ _ _ (c .before .before .before .before .before .before .before .before .before .before .loop .inv) _ _ _ _ _ (is-item d) _ (c .before .before .before .before .before .row-of .ensures) _ (is-next (c .before .before)) (all-bytes d) _ _ _ _ (omega arith)
+    let l = d .before .before .before .loop in
+    turn-more _ _ _ _ (l .inv) _ _ _ _ _ (is-item d) _ (c .before .before .before .before .before .row-of .ensures) _ (is-next (c .before .before))
+    (all-bytes d) _ _ _ _ (omega arith)
 
 enum-known-refusal : tie.Need-enum-known-refusal Inv-loop μ-loop
 enum-known-refusal c = search needs
@@ -124,8 +130,10 @@ refused-requires-2 c κs = search needs
 
 returns-2 : tie.Need-returns-2 Inv-loop μ-loop
 returns-2 c = let d = c .before .before .before .before .before .before .before in
+    let l = d .before .before .before .loop in
+    let told = sym (c .before .before .refusal .given .1) ∙ c .before .before .before .before .check .ensures in
     c .refused2 .ensures
-    ∙ ap programOf (turn-checked _ _ _ _ (c .before .before .before .before .before .before .before .before .before .before .loop .inv) _ _ _ _ _ (is-item d) _ (c .before .before .before .before .before .row-of .ensures) _ (sym (c .before .before .refusal .given .1) ∙ c .before .before .before .before .check .ensures))
+    ∙ ap programOf (turn-checked _ _ _ _ (l .inv) _ _ _ _ _ (is-item d) _ (c .before .before .before .before .before .row-of .ensures) _ told)
 
 enum-told : tie.Need-enum-told Inv-loop μ-loop
 enum-told c = search needs
@@ -140,8 +148,9 @@ refused-requires-3 : tie.Need-refused-requires-3 Inv-loop μ-loop
 refused-requires-3 c κs = search needs
 
 returns-4 : tie.Need-returns-4 Inv-loop μ-loop
-returns-4 c = c .refused3 .ensures
-    ∙ ap programOf (turn-refused _ _ _ _ (c .before .before .before .before .before .loop .inv) _ (sym (c .before .before .refusal2 .given .1) ∙ c .before .before .before .before .read-item .ensures))
+returns-4 c = let r = c .before .before in
+    let told = sym (r .refusal2 .given .1) ∙ r .before .before .read-item .ensures in
+    c .refused3 .ensures ∙ ap programOf (turn-refused _ _ _ _ (r .before .before .before .loop .inv) _ told)
 
 pub decode-spec : {M : Type 1} → statement M
 decode-spec =

@@ -1,5 +1,6 @@
 -- `run` meets its contract: the tests of code, clip and buffer are the definition's, in its order, and past them the frames are run.
 use native.Mathlib.Omega.{arith}
+use native.Mathlib.Nat.{sub-zero}
 use mathlib.Core.Path.{refl, sym}
 use Rattle.ground.specs.Buffers.{AllBytes}
 use Rattle.code.proofs.Accepted.{HasCode, ready, not-ready}
@@ -15,25 +16,42 @@ enum-known-loaded : tie.Need-enum-known-loaded
 enum-known-loaded c = search needs
 
 -- the code is accepted
-is-ready : (c : tie.After-loaded) → HasCode (c .before .before .before .before .before .before .args .code .now) (c .before .before .decode .result .numbers) (c .loaded .given .0 .0)
+is-ready : (c : tie.After-loaded) →
+    let d = c .before .before in
+    HasCode (d .before .before .before .before .args .code .now) (d .decode .result .numbers) (c .loaded .given .0 .0)
 is-ready c =
-    let small : AllBytes (c .before .before .before .before .before .before .args .code .now) = λ i. omega (arith, c .before .before .before .before .before .shared-slice-known .given i) in
-    ready _ _ _ small (c .before .before .decode .ensures) (sym (c .loaded .given .1))
+    let d = c .before .before in
+    let start = d .before .before .before .before in
+    let small : AllBytes (start .args .code .now) = λ i. omega (arith, d .before .before .before .shared-slice-known .given i) in
+    ready _ _ _ small (d .decode .ensures) (sym (c .loaded .given .1))
 
 bad-clip-requires : tie.Need-bad-clip-requires
 bad-clip-requires c κs = search needs
 
 returns : tie.Need-returns
-returns c = (ran-bad _ _ _ _ _ (is-ready (c .before .before .before)) _ (c .before .bad-clip .ensures) (c .if1 .taken), refl)
+returns c = let t = c .before in
+    (ran-bad _ _ _ _ _ (is-ready (t .before .before)) _ (t .bad-clip .ensures) (c .if1 .taken), refl)
 
 returns-2 : tie.Need-returns-2
-returns-2 c = (ran-short _ _ _ _ _ (is-ready (c .before .before .before .before)) _ (c .before .before .bad-clip .ensures) (c .before .if1 .left) (c .if2 .taken), refl)
+returns-2 c = let t = c .before .before in
+    (ran-short _ _ _ _ _ (is-ready (t .before .before)) _ (t .bad-clip .ensures) (c .before .if1 .left) (c .if2 .taken), refl)
 
-slice-aggregate-run-frames : tie.Need-slice-aggregate-run-frames
-slice-aggregate-run-frames c = search needs
+mul-length : tie.Need-mul-length
+mul-length c = omega (arith, is-ready (c .before .before .before .before .before) .many)
+
+sub-run-frames : tie.Need-sub-run-frames
+sub-run-frames c = search needs
+
+part-run-frames-start : tie.Need-part-run-frames-start
+part-run-frames-start c = search needs
+
+part-run-frames-end : tie.Need-part-run-frames-end
+part-run-frames-end c = omega (arith, is-ready (c .before .before .before .before .before .before) .inside)
 
 run-frames-requires : tie.Need-run-frames-requires
-run-frames-requires c κs = ready-loads _ _ _ _ _ (is-ready (c .before .before .before .before .before .before .before)) _ (c .before .before .before .before .before .bad-clip .ensures) (c .before .before .before .before .if1 .left) (c .before .before .before .if2 .left)
+run-frames-requires c κs = let e = c .before .before .before .before in
+    let t = e .before .before in
+    rw sub-zero (ready-loads _ _ _ _ _ (is-ready (t .before .before)) _ (t .bad-clip .ensures) (e .before .if1 .left) (e .if2 .left))
 
 enum-known-loaded-2 : tie.Need-enum-known-loaded-2
 enum-known-loaded-2 c = search needs
@@ -42,12 +60,11 @@ same-length : tie.Need-same-length
 same-length c = search needs
 
 returns-3 : tie.Need-returns-3
-returns-3 c = let a = is-ready (c .before .before .before .before .before .before .before .before .before .before) in
-    let test = c .before .before .before .before .before .before .before .before .bad-clip .ensures in
-    let fit = c .before .before .before .before .before .before .before .if1 .left in
-    let room = c .before .before .before .before .before .before .if2 .left in (
-      ran-done _ _ _ _ _ a _ test fit room,
-      ran-all _ _ _ _ _ a _ test fit room _ (c .before .before .run-frames .ensures),
+returns-3 c = let e = c .before .before .before .before .before .before .before in
+    let t = e .before .before in
+    let a = is-ready (t .before .before) in (
+      ran-done _ _ _ _ _ a _ (t .bad-clip .ensures) (e .before .if1 .left) (e .if2 .left),
+      ran-all _ _ _ _ _ a _ (t .bad-clip .ensures) (e .before .if1 .left) (e .if2 .left) _ (rw sub-zero at (c .before .before .run-frames .ensures)),
     )
 
 returns-4 : tie.Need-returns-4
@@ -62,7 +79,10 @@ run-spec =
     bad-clip-requires
     returns
     returns-2
-    slice-aggregate-run-frames
+    mul-length
+    sub-run-frames
+    part-run-frames-start
+    part-run-frames-end
     run-frames-requires
     enum-known-loaded-2
     same-length

@@ -7,16 +7,17 @@ use lib.ListN.{length}
 use Rattle.sequencer.proofs.Running.{Runs, runs-first, runs-fits, runs-more, runs-all}
 use Rattle.sequencer.proofs.run.run_frames.Statement.{statement}
 use Rattle.sequencer.proofs.run.run_frames.Tie as tie
-use Rattle.sequencer.specs.Inner.Through.{CanRun}
+use Rattle.sequencer.specs.Inner.Through.{lent, CanRun}
 
 abbrev Inv-loop : tie.InvT-loop
-Inv-loop numbers count clip out₀ counters₀ delays₀ bits₀ read₀ out counters delays bits read = (f : CanRun numbers count clip out₀) × Runs numbers count clip out₀ f counters delays bits out read
+Inv-loop numbers clip out₀ counters₀ delays₀ bits₀ read₀ out counters delays bits read =
+    (f : CanRun numbers clip out₀) × Runs numbers clip out₀ f (lent counters delays bits) out read
 
 abbrev μ-loop : tie.MeasureT-loop
-μ-loop numbers count clip out₀ counters₀ delays₀ bits₀ read₀ out counters delays bits read = length clip - read
+μ-loop numbers clip out₀ counters₀ delays₀ bits₀ read₀ out counters delays bits read = length clip - read
 
 loop-holds : tie.Need-loop-holds Inv-loop μ-loop
-loop-holds c = (c .before .before .before .pre, runs-first _ _ _ _ (c .before .before .before .pre))
+loop-holds c = (c .before .before .before .pre, runs-first _ _ _ (c .before .before .before .pre))
 
 sub-at : tie.Need-sub-at Inv-loop μ-loop
 sub-at c = omega arith
@@ -28,16 +29,16 @@ shared-slice-read-frame-through : tie.Need-shared-slice-read-frame-through Inv-l
 shared-slice-read-frame-through c = omega arith
 
 slice-aggregate-frame-through : tie.Need-slice-aggregate-frame-through Inv-loop μ-loop
-slice-aggregate-frame-through c = sym (c .before .before .before .loop .inv .1 .all-counters)
+slice-aggregate-frame-through c = sym (c .before .before .before .loop .inv .1 .size .counters)
 
 slice-aggregate-frame-through-2 : tie.Need-slice-aggregate-frame-through-2 Inv-loop μ-loop
-slice-aggregate-frame-through-2 c = sym (c .before .before .before .before .loop .inv .1 .all-delays)
+slice-aggregate-frame-through-2 c = sym (c .before .before .before .before .loop .inv .1 .size .delays)
 
 slice-aggregate-frame-through-3 : tie.Need-slice-aggregate-frame-through-3 Inv-loop μ-loop
-slice-aggregate-frame-through-3 c = sym (c .before .before .before .before .before .loop .inv .1 .all-bits)
+slice-aggregate-frame-through-3 c = sym (c .before .before .before .before .before .loop .inv .1 .size .bits)
 
 frame-through-requires : tie.Need-frame-through-requires Inv-loop μ-loop
-frame-through-requires c κs = runs-fits _ _ _ _ _ (c .before .before .before .before .before .loop .inv .1)
+frame-through-requires c κs = runs-fits _ _ _ _ (c .before .before .before .before .before .loop .inv .1)
 
 byte-of-requires : tie.Need-byte-of-requires Inv-loop μ-loop
 byte-of-requires c κs = search needs
@@ -53,16 +54,17 @@ loop-less : tie.Need-loop-less Inv-loop μ-loop
 loop-less c = omega arith
 
 loop-again : tie.Need-loop-again Inv-loop μ-loop
-loop-again c = let i = c .before .before .before .before .before .before .before .before .before .before .loop .inv in (
-  i .0,
-  runs-more _ _ _ _ _ (i .1) _ (omega arith) _ (c .before .before .before .before .frame-through .ensures) (c .before .before .before .counters2 .given) (c .before .before .delays2 .given) (c .before .bits2 .given) _ (c .byte-of .ensures),
-)
+loop-again c = let d = c .before .before in
+    let g = d .before .before in
+    let i = g .before .before .before .before .before .before .loop .inv in
+    let more = runs-more _ _ _ _ (i .1) _ (omega arith) _ _ (g .frame-through .ensures) in
+    (i .0, more (record { counters = d .before .counters2 .given; delays = d .delays2 .given; bits = c .before .bits2 .given }) _ (c .byte-of .ensures))
 
 same-length : tie.Need-same-length Inv-loop μ-loop
 same-length c = c .before .loop .inv .1 .all
 
 returns : tie.Need-returns Inv-loop μ-loop
-returns c = runs-all _ _ _ _ _ (c .before .loop .inv .1) (omega arith)
+returns c = runs-all _ _ _ _ (c .before .loop .inv .1) (omega arith)
 
 pub run-frames-spec : {M : Type 1} → statement M
 run-frames-spec =

@@ -3,7 +3,6 @@ use lib.ListN.{length}
 use Rattle.ground.specs.Limits.{limits}
 use native.Mathlib.Omega.{arith}
 use mathlib.Core.Path.{_≡_}
-use Rattle.sequencer.proofs.Stepping.{sound-fits, advanced}
 use borrow.Author.Needs.{needs}
 use Rattle.sequencer.proofs.registers.Registers.advance.Statement.{statement}
 use Rattle.sequencer.proofs.registers.Registers.advance.Tie as tie
@@ -22,10 +21,10 @@ frame-through-requires c κs =
     let start = c .before .before .before .before .before .before in
     let counters : length (start .args .self .counters) ≡ limits .counters = search needs in
     let delays : length (start .args .self .delays) ≡ limits .delays = search needs in
-    sound-fits _ _ _ _ (start .pre) (omega arith) (omega arith) (omega arith)
+    record { sound = start .pre; counters = omega arith; delays = omega arith; room = omega arith }
 
 returns : tie.Need-returns
-returns c = advanced _ _ _ _ _ (c .before .before .before .frame-through .ensures)
+returns c = c .before .before .before .frame-through .ensures .advanced
 
 pub advance-spec : {M : Type 1} → statement M
 advance-spec =

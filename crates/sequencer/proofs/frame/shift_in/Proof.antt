@@ -4,8 +4,8 @@ use Prim.Native.Nat.{_+_, _-_, _≤_}
 use mathlib.Core.Path.{_≡_, ap, _∙_}
 use lib.ListN.{length, length-set}
 use Rattle.sequencer.proofs.Shifting.{moved, moved-none, moved-length, moved-more, shifted-moved}
-use Rattle.sequencer.proofs.registers.shift_in.Statement.{statement}
-use Rattle.sequencer.proofs.registers.shift_in.Tie as tie
+use Rattle.sequencer.proofs.frame.shift_in.Statement.{statement}
+use Rattle.sequencer.proofs.frame.shift_in.Tie as tie
 
 abbrev Inv-loop : tie.InvT-loop
 Inv-loop delays₀ at last newest p₀ delays p = (delays ≡ moved delays₀ at p) × (at ≤ p) × (p ≤ last)

@@ -3,8 +3,8 @@ use native.Mathlib.Omega.{arith}
 use borrow.Author.Tests.{not-true, not-false}
 use Rattle.sequencer.proofs.Next.{next-hit, next-off, next-none, next-past, next-rise}
 use borrow.Author.Needs.{needs}
-use Rattle.sequencer.proofs.registers.next_counter.Statement.{statement}
-use Rattle.sequencer.proofs.registers.next_counter.Tie as tie
+use Rattle.sequencer.proofs.frame.next_counter.Statement.{statement}
+use Rattle.sequencer.proofs.frame.next_counter.Tie as tie
 
 returns : tie.Need-returns
 returns c = let a = c .before .args in
@@ -30,7 +30,8 @@ add-result c = search needs
 
 returns-5 : tie.Need-returns-5
 returns-5 c = let a = c .before .before .before .before .args in
-    next-rise (a .width) (a .i) (a .j) (a .counter) (c .before .before .before .if1 .left) (not-false _ (c .before .before .if2 .left)) (c .before .if3 .left) (omega arith)
+    let i = not-false _ (c .before .before .if2 .left) in
+    next-rise (a .width) (a .i) (a .j) (a .counter) (c .before .before .before .if1 .left) i (c .before .if3 .left) (omega arith)
 
 pub next-counter-spec : {M : Type 1} → statement M
 next-counter-spec =

@@ -2,8 +2,8 @@
 use mathlib.Core.Path.{refl}
 use Rattle.ground.specs.Frames.{hasFlag}
 use borrow.Author.Needs.{needs}
-use Rattle.sequencer.proofs.registers.has_flag.Statement.{statement}
-use Rattle.sequencer.proofs.registers.has_flag.Tie as tie
+use Rattle.sequencer.proofs.frame.has_flag.Statement.{statement}
+use Rattle.sequencer.proofs.frame.has_flag.Tie as tie
 
 cast-result : tie.Need-cast-result
 cast-result c = search needs
