@@ -1,5 +1,5 @@
--- The code of an accepted rule is accepted. An item's instructions refer to its operands' bits and to each other, so all operands are earlier instructions, and its flag, width
--- and distance are at most the item's own; the totals follow from what the rule's items count.
+-- The code of an accepted rule is accepted. An item's instructions refer to its operands' bits and to each other, so all operands are earlier instructions, and
+-- its flag, width and distance are at most the item's own; the totals follow from what the rule's items count.
 use mathlib.Core.Path.{_≡_}
 use mathlib.Core.List.{List, [], _∷_, _++_, append-assoc, append-nil}
 use Prim.Native.Nat.{ℕ, zero, suc, _+_, _≤_}
@@ -7,7 +7,7 @@ use native.Mathlib.Omega.{arith}
 use lib.ListN.{length, length-append}
 use Rattle.ground.specs.Each.{Each}
 use Rattle.reading.specs.InTurn.{items}
-use Rattle.ground.specs.Limits.{limits}
+use Rattle.ground.specs.Limits.{limits, mostEmitted, mostCodeBytes}
 use Rattle.ground.proofs.Each.{each-parted}
 use Rattle.rules.specs.Accepted.{IsRule, InRange}
 use Rattle.rules.specs.Formula.{Formula}
@@ -21,14 +21,14 @@ use Rattle.code.specs.Inner.Rows.{rowOfInstruction}
 use Rattle.code.proofs.Complete.{code-read}
 use Rattle.code.proofs.Counting.{reaches-more, distance-more, good-none, good-more}
 use Rattle.code.proofs.Instructions.{code-length}
-use Rattle.emitter.specs.Emit.{mostInstructions, mostCodeBytes}
 use Rattle.emitter.specs.Translation.{laterBy, timed, itemCode, behind, afterOne, afterTwo, translate, codeFor, codeBytes}
 use Rattle.emitter.proofs.Sizes.{Earlier, Grown, grown}
 
 -- An instruction whose own numbers no test refuses, where so many are earlier
 abbrev Fits : ℕ → Instruction → Type 0
 Fits n i =
-    (rowOfInstruction i .flag ≤ limits .flag) × (rowOfInstruction i .needs ≤ n) × (rowOfInstruction i .width ≤ limits .width) × (rowOfInstruction i .later ≤ distanceOf i) × (distanceOf i ≤ limits .distance)
+    let row = rowOfInstruction i in
+    (row .flag ≤ limits .flag) × (row .needs ≤ n) × (row .width ≤ limits .width) × (row .later ≤ distanceOf i) × (distanceOf i ≤ limits .distance)
 
 -- instructions like that, where so many are earlier than the first
 abbrev Fit : ℕ → Code → Type 0
@@ -68,7 +68,8 @@ module _ (c : Code) (f : Formula) (own : Each InRange (postfix f) → Fit 0 (tra
       let m = grown c f in
       behind-fit (translate c f) i 0 _ (s .0) (λ h. omega arith) (own r)
 
-  after-two : (g : Formula) → (Each InRange (postfix g) → Fit 0 (translate c f) → Fit 0 (translate (translate c f) g)) → (i : Item) → Each InRange (postfix f ++ (postfix g ++ i ∷ []))
+  after-two : (g : Formula) → (Each InRange (postfix g) → Fit 0 (translate c f) → Fit 0 (translate (translate c f) g)) → (i : Item)
+      → Each InRange (postfix f ++ (postfix g ++ i ∷ []))
       → Fit 0 (afterTwo (translate c f) (translate (translate c f) g) i)
   after-two g more i e =
       let (r, s) = each-parted InRange (postfix f) (postfix g ++ i ∷ []) e in
@@ -128,7 +129,7 @@ all-fine is (i ∷ js) g a =
 size : (bytes : List ℕ) (is : Items) (f : Formula) → IsRule bytes is f → Grown [] (codeFor f) is
 size bytes is f r = rw (r .own-items) (grown [] f)
 
-pub code-instructions : (bytes : List ℕ) (is : Items) (f : Formula) → IsRule bytes is f → length (codeFor f) ≤ mostInstructions
+pub code-instructions : (bytes : List ℕ) (is : Items) (f : Formula) → IsRule bytes is f → length (codeFor f) ≤ mostEmitted
 code-instructions bytes is f r = let s = size bytes is f r in omega arith
 
 pub code-bytes : (bytes : List ℕ) (is : Items) (f : Formula) → IsRule bytes is f → length (codeBytes f) ≤ mostCodeBytes

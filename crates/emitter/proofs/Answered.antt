@@ -1,6 +1,6 @@
--- `emit` past its tests. A rule that is loaded and accepted has the items of one formula, each of which can be emitted behind those before it within the limits; so the code that its
--- items make in order is the code of that formula, which is what the definition says.
-use mathlib.Core.Path.{_≡_, sym, ap, _∙_}
+-- `emit` past its tests. A rule that is loaded and accepted has the items of one formula, each of which can be emitted behind those before it within the
+-- limits; so the code that its items make in order is the code of that formula, which is what the definition says.
+use mathlib.Core.Path.{_≡_, refl, sym, ap, _∙_}
 use mathlib.Core.Bool.{Bool, cond}
 use mathlib.Core.List.{List, [], _∷_, _++_, append-nil}
 use Prim.Native.Nat.{ℕ, suc, _+_, _*_, _≤_, _<_}
@@ -8,8 +8,7 @@ use native.Mathlib.Omega.{arith}
 use lib.ListN.{length, getD, take, drop, length-append, length-take, take-append-drop}
 use lib.Seq.{take-suc, take-at, take-length}
 use Rattle.ground.specs.Buffers.{AllBytes, tooShort, over}
-use Rattle.reading.specs.InTurn.{bytesOfAll}
-use Rattle.ground.specs.Limits.{limits}
+use Rattle.ground.specs.Limits.{limits, mostCodeBytes}
 use Rattle.ground.specs.declared.refusal.Refusal.{Refusal}
 use Rattle.ground.proofs.Buffers.{too-short, long-enough, not-short}
 use Rattle.ground.proofs.Each.{each-at}
@@ -24,12 +23,10 @@ use Rattle.rules.specs.declared.load.Rule.{Rule}
 use Rattle.rules.proofs.Accepted.{accepted-rule, made, loaded-refused}
 use Rattle.rules.proofs.Prefixes.{values-few, operands-there, whole-prefix}
 use Rattle.rules.proofs.Stack.{timed-append}
-use Rattle.code.specs.Code.{bytesOfInstruction}
 use Rattle.code.proofs.Instructions.{code-length}
-use Rattle.emitter.specs.Inner.Emission.{stackCode, Emittable, CanEmit}
-use Rattle.rules.specs.Loaded.{itemsIn}
-use Rattle.emitter.specs.Emit.{mostCodeBytes, bytesFor, emittedOf}
-use Rattle.emitter.specs.Translation.{codeBytes}
+use Rattle.emitter.specs.Inner.Emission.{stackCode, Emittable, CanEmit, itemsBytes, EmittedItems}
+use Rattle.emitter.specs.Emit.{bytesFor, emittedOf}
+use Rattle.emitter.specs.Translation.{codeBytes, bytesOfCode}
 use Rattle.emitter.specs.declared.emit.Emitted.{Emitted}
 use Rattle.emitter.proofs.Accepted.{code-bytes}
 use Rattle.emitter.proofs.Sizes.{stack-length, stack-reaches}
@@ -55,7 +52,8 @@ timed-part k is = omega (arith, timed-append (take k is) (drop k is), ap timedIn
 
 module _ (bytes : List ℕ) (f : Formula) (r : IsRule bytes (postfix f) f) where
   -- the code of the first items is within the bounds
-  part-code : (k : ℕ) → let code = stackCode (stackOf (take k (postfix f))) in (length (bytesOfAll bytesOfInstruction code) ≤ mostCodeBytes) × (length code ≤ limits .instructions)
+  part-code : (k : ℕ) → let code = stackCode (stackOf (take k (postfix f))) in
+      (length (bytesOfCode code) ≤ mostCodeBytes) × (length code ≤ limits .instructions)
   part-code k =
       let is = take k (postfix f) in
       let st = stackOf is in
@@ -86,12 +84,13 @@ module _ (bytes : List ℕ) (rule : Rule) (n : ℕ) (a : Accepts bytes rule n) w
       rw (a .own, a .many)
       (record {
         few = r .items;
-        ready = λ k h. rw (items-prefix is f k (omega arith), item-back is f k h, r .own-items) (ready bytes f (rw (r .own-items) at r) k (rw (r .own-items) at h));
+        ready = λ k h.
+            rw (items-prefix is f k (omega arith), item-back is f k h, r .own-items) (ready bytes f (rw (r .own-items) at r) k (rw (r .own-items) at h));
         room = omega arith;
       })
 
   -- what the items make in order is the code of the formula
-  rule-code : bytesOfAll bytesOfInstruction (stackCode (stackOf (itemsIn rule n))) ≡ codeBytes (a .formula)
+  rule-code : itemsBytes rule n ≡ codeBytes (a .formula)
   unfolding stackFrom stackCode
   rule-code =
       let is = a .items in
@@ -100,19 +99,21 @@ module _ (bytes : List ℕ) (rule : Rule) (n : ℕ) (a : Accepts bytes rule n) w
       rw (a .own, a .many, items-back is f, a .is-rule .own-items, value)
 
   -- The answers, once the items are emitted into a buffer that holds the code
-  module _ (before : List ℕ) (m : ℕ) (held : List ℕ) (w : let code = bytesOfAll bytesOfInstruction (stackCode (stackOf (itemsIn rule n))) in (m ≡ length code) × (held ≡ over code before)) where
+  module _ (before : List ℕ) (m : ℕ) (held : List ℕ) (w : EmittedItems rule n before m held) where
     own-length : m ≡ length (codeBytes (a .formula))
-    own-length = w .0 ∙ ap length rule-code
+    own-length = w .own-length ∙ ap length rule-code
 
     own-bytes : held ≡ over (codeBytes (a .formula)) before
-    own-bytes = w .1 ∙ ap (λ code. over code before) rule-code
+    own-bytes = w .own-bytes ∙ ap (λ code. over code before) rule-code
 
     -- the code is the first part
     first-part : take m held ≡ codeBytes (a .formula)
     first-part = ap (take m) own-bytes ∙ take-at (codeBytes (a .formula)) _ m (sym own-length)
 
     pub part-inside : m ≤ length held
-    part-inside = omega (arith, ap length own-bytes, length-append (codeBytes (a .formula)) (drop (length (codeBytes (a .formula))) before), own-length)
+    part-inside =
+        let code = codeBytes (a .formula) in
+        omega (arith, ap length own-bytes, length-append code (drop (length code) before), own-length)
 
     pub part-length : m ≡ length (take m held)
     part-length = own-length ∙ ap length (sym first-part)
@@ -128,31 +129,39 @@ module _ (bytes : List ℕ) (rule : Rule) (n : ℕ) (a : Accepts bytes rule n) w
         pub answer-length : Emitted.Length m ≡ emittedOf (readRule bytes) out
         answer-length = rw (a .read, own-length) (sym (has-room (a .items) (a .formula) out (omega (arith, own-length))))
 
-        pub answer-bytes : (after : List ℕ) → after ≡ take (length (take m held)) (take m held) ++ drop (length (take m held)) out → after ≡ over (bytesFor (readRule bytes)) out
+        pub answer-bytes : (after : List ℕ) → let code = take m held in after ≡ take (length code) code ++ drop (length code) out
+            → after ≡ over (bytesFor (readRule bytes)) out
         answer-bytes after e = e ∙ rw (first-part, a .read, take-length)
 
 -- a rule that is refused
-pub answer-refused : (bytes out : List ℕ) (rule : Rule) (r : Refusal) → rule ≡ ruleOf (readRule bytes) → Loaded.Refused r ≡ rule .loaded → Emitted.Refused r ≡ emittedOf (readRule bytes) out
+pub answer-refused : (bytes out : List ℕ) (rule : Rule) (r : Refusal) → rule ≡ ruleOf (readRule bytes) → Loaded.Refused r ≡ rule .loaded
+    → Emitted.Refused r ≡ emittedOf (readRule bytes) out
 unfolding ruleOf
 answer-refused bytes out rule r own e = let is = loaded-refused (readRule bytes) r (e ∙ ap (λ x. x .loaded) own) in rw is
 
 -- A buffer as long as the bound always suffices
-pub always-suffices : (bytes out : List ℕ) (is : Items) (f : Formula) → AllBytes bytes → readRule bytes ≡ accepted is f → mostCodeBytes ≤ length out → emittedOf (readRule bytes) out ≡ Emitted.Length (length (codeBytes f))
+pub always-suffices : (bytes out : List ℕ) (is : Items) (f : Formula) → AllBytes bytes → readRule bytes ≡ accepted is f → mostCodeBytes ≤ length out
+    → emittedOf (readRule bytes) out ≡ Emitted.Length (length (codeBytes f))
 always-suffices bytes out is f small read room =
     let short = code-bytes bytes is f (accepted-rule bytes is f small read) in
     rw read (has-room is f out (omega arith))
 
--- A length that is answered is within the buffer
+-- A length that is answered is that of an accepted rule's code, which the buffer holds
 
 apart : {r : Refusal} {n : ℕ} → Emitted.Refused r ≡ Emitted.Length n → ⊥
 apart e = let z : _≡_ {A = ℕ} 0 1 = cc in omega arith
 
-read-fits : (read : Reading) (out : List ℕ) (n : ℕ) → emittedOf read out ≡ Emitted.Length n → n ≤ length out
-read-fits (accepted is f) out n e =
+read-length : (read : Reading) (out : List ℕ) (n : ℕ) → emittedOf read out ≡ Emitted.Length n
+    → (is : Items) × (f : Formula) × (read ≡ accepted is f) × (n ≡ length (codeBytes f)) × (n ≤ length out)
+read-length (accepted is f) out n e =
     let (room, length-is) = else-taken (tooShort out (codeBytes f)) apart e in
     let own : n ≡ length (codeBytes f) = cc in
-    omega (arith, not-short out (codeBytes f) room)
-read-fits (refused r) out n e = absurd (apart e)
+    (is, f, refl, own, omega (arith, not-short out (codeBytes f) room))
+read-length (refused r) out n e = absurd (apart e)
+
+pub length-answered : (bytes out : List ℕ) (n : ℕ) → emittedOf (readRule bytes) out ≡ Emitted.Length n
+    → (is : Items) × (f : Formula) × (readRule bytes ≡ accepted is f) × (n ≡ length (codeBytes f)) × (n ≤ length out)
+length-answered bytes = read-length (readRule bytes)
 
 pub length-fits : (bytes out : List ℕ) (n : ℕ) → emittedOf (readRule bytes) out ≡ Emitted.Length n → n ≤ length out
-length-fits bytes = read-fits (readRule bytes)
+length-fits bytes out n e = let (is, f, read, own, fits) = length-answered bytes out n e in fits

@@ -1,5 +1,6 @@
--- Demand 3. The emitter's answer and its buffer are the code of the rule's formula; that code is read back, and its output is the formula's computed meaning, which agrees with the
--- paper's. So the byte that a run writes for a frame says whether the clip from it satisfies the rule. No one code can do that for two rules of which one always holds and one never.
+-- Demand 3. The emitter's answer and its buffer are the code of the rule's formula; that code is read back, and its output is the formula's computed meaning,
+-- which agrees with the paper's. So the byte that a run writes for a frame says whether the clip from it satisfies the rule. No one code can do that for two
+-- rules of which one always holds and one never.
 use mathlib.Core.Path.{_≡_, refl, ap, _∙_}
 use mathlib.Core.Bool.{Bool, true, false}
 use mathlib.Core.List.{List, [], _∷_}
@@ -8,7 +9,7 @@ use native.Mathlib.Omega.{arith}
 use borrow.Author.Tests.{le-ltb, ne-eqb}
 use lib.ListN.{length, getD, take, drop, length-append, length-drop, List·getD-append}
 use lib.Seq.{take-at, drop-at}
-use Rattle.ground.specs.Buffers.{AllBytes, byteOf}
+use Rattle.ground.specs.Buffers.{AllBytes, byteOf, byteValues}
 use Rattle.ground.specs.Frames.{Clip}
 use Rattle.reading.specs.InTurn.{items, inTurn, readAll}
 use Rattle.reading.specs.Items.{itemAt, numbersFrom, look, ruleCodes}
@@ -27,7 +28,8 @@ use Rattle.code.specs.Code.{Code}
 use Rattle.code.specs.Loading.{readCode, codeOf}
 use Rattle.sequencer.specs.Running.{verdicts, badClip, ranOf, bufferAfter}
 use Rattle.sequencer.specs.declared.run.Ran.{Ran}
-use Rattle.emitter.specs.Demand.{EmitSays, RunSays, Verdicts, Meets, DemandThree}
+use Rattle.emitter.specs.Demand.{RunSays, Verdicts, Meets, DemandThree}
+use Rattle.emitter.specs.Emit.{EmitSays}
 use Rattle.emitter.specs.Translation.{codeFor, codeBytes}
 use Rattle.emitter.specs.declared.emit.Emitted.{Emitted}
 use Rattle.emitter.proofs.Accepted.{code-accepted}
@@ -69,7 +71,7 @@ unfolding badClip
 read-meets f code bytes read says =
     record {
       loads = (length code, rw read);
-      judges = λ clip before some most room answer after p.
+      runs = λ clip before some most room answer after p.
           let runs : ranOf (readCode bytes) clip before ≡ Ran.Done =
           rw (read, ne-eqb (length clip) 0 (omega arith), le-ltb (limits .frames) (length clip) most, long-enough before clip room) in
           let done : answer ≡ Ran.Done = p .0 ∙ runs in
@@ -88,16 +90,18 @@ demand-three rule before is f small read room answer after p =
     (length (codeBytes f), answered, rw own (read-meets f (codeFor f) (codeBytes f) (code-accepted rule is f r) says))
 
 -- what a run of such code leaves for the clip of one frame 0
-one-frame : (f : Formula) (code : List ℕ) → Meets f code → Verdicts f (0 ∷ []) (0 ∷ []) (bufferAfter (ranOf (readCode code) (0 ∷ []) (0 ∷ [])) (codeOf (readCode code)) (0 ∷ []) (0 ∷ []))
-one-frame f code m = m .judges (0 ∷ []) (0 ∷ []) (omega arith) (omega arith) (omega arith) _ _ (refl, refl) .1
+one-frame : (f : Formula) (code : List ℕ) → Meets f code → let clip : Clip = 0 ∷ [] in let read = readCode code in
+    Verdicts f clip clip (bufferAfter (ranOf read clip clip) (codeOf read) clip clip)
+one-frame f code m = m .runs (0 ∷ []) (0 ∷ []) (omega arith) (omega arith) (omega arith) _ _ (refl, refl) .1
 
-one-byte : (b : ℕ) → b < 256 → AllBytes (b ∷ [])
+one-byte : (b : ℕ) → b < byteValues → AllBytes (b ∷ [])
 one-byte b h zero = h
 one-byte b h (suc i) = omega arith
 
 -- No one code meets the demand for every accepted rule: of `10`, true, and `11`, false, one byte would be both 1 and 0
 pub no-fixed-code : (code : List ℕ) → ((rule : List ℕ) (is : Items) (f : Formula) → AllBytes rule → readRule rule ≡ accepted is f → Meets f code) → ⊥
-unfolding readRule readAll inTurn itemAt numbersFrom look ruleCodes itemOf apply stackFrom timedIn lowerIn ruleCounts ruleCounted badWindow ruleTooLarge checkItem Holds
+unfolding readRule readAll inTurn itemAt numbersFrom look ruleCodes itemOf apply stackFrom timedIn lowerIn ruleCounts ruleCounted badWindow ruleTooLarge
+    checkItem Holds
 no-fixed-code code meets =
     let yes = one-frame Formula.True code (meets (0x10 ∷ []) _ Formula.True (one-byte 0x10 (omega arith)) refl) in
     let no = one-frame Formula.False code (meets (0x11 ∷ []) _ Formula.False (one-byte 0x11 (omega arith)) refl) in

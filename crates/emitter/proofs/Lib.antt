@@ -6,6 +6,7 @@ pub mod Behind
 pub mod Waiting
 pub mod InOrder
 pub mod Answered
+pub mod Preparing
 pub mod Demand
 pub mod Samples
 pub mod Unique

@@ -1,5 +1,6 @@
 -- The samples of emitted code, proved together: the definitions that the contracts cite compute to each row's answer.
 use mathlib.Core.Path.{refl}
+use lib.ListN.{drop}
 use Rattle.ground.specs.Each.{Each}
 use Rattle.ground.specs.Frames.{hasFlag}
 use Rattle.reading.specs.InTurn.{inTurn, readAll, bytesOfAll}
@@ -15,6 +16,10 @@ use Rattle.emitter.specs.Translation.{laterBy, timed, itemCode, translat
 use Rattle.emitter.specs.Samples.{EmittedRight, samples}
 
 pub samples-right : Each EmittedRight samples
-unfolding laterBy samples readAll inTurn itemAt numbersFrom look ruleCodes instructionCodes numberAt numberBytes bytesOfAll rule.itemOf rule.apply rule-loading.stackFrom rule-loading.timedIn rule-loading.lowerIn rule-loading.ruleCounts rule-loading.ruleCounted rule-loading.badWindow rule-loading.ruleTooLarge rule-loading.checkItem rule-loading.readRule instructionOf bytesOfInstruction checkInstruction codeCounts codeCounted reachesIn distanceIn codeTooLarge verdicts badClip output wiresFrom wireOf counter next later hasFlag timed itemCode translate
+unfolding laterBy samples readAll inTurn itemAt numbersFrom look ruleCodes instructionCodes numberAt numberBytes bytesOfAll rule.itemOf rule.apply
+    rule-loading.stackFrom rule-loading.timedIn rule-loading.lowerIn rule-loading.ruleCounts rule-loading.ruleCounted rule-loading.badWindow
+    rule-loading.ruleTooLarge rule-loading.checkItem rule-loading.readRule instructionOf bytesOfInstruction checkInstruction codeCounts codeCounted
+    reachesIn distanceIn codeTooLarge verdicts badClip output wiresFrom wireOf counter next later hasFlag timed itemCode translate
 samples-right =
-    (refl, (refl, ((refl, refl), (refl, (refl, (refl, (refl, (refl, (refl, (refl, (refl, (refl, (refl, (refl, (refl, ((refl, refl), ((refl, refl), ((refl, refl), ((refl, refl), tt)))))))))))))))))))
+    let answered : Each EmittedRight (drop 15 samples) = ((refl, refl), ((refl, refl), ((refl, refl), ((refl, refl), tt)))) in
+    (refl, (refl, ((refl, refl), (refl, (refl, (refl, (refl, (refl, (refl, (refl, (refl, (refl, (refl, (refl, (refl, answered)))))))))))))))

@@ -1,5 +1,5 @@
--- What the translation adds to the code before it: of each item three instructions at most, two more of a timed one, whose REACH and LATER are the item's own. Item by item these
--- add up, for a formula and for the formulas that wait.
+-- What the translation adds to the code before it: of each item three instructions at most, two more of a timed one, whose REACH and LATER are the item's own.
+-- Item by item these add up, for a formula and for the formulas that wait.
 use mathlib.Core.Path.{_≡_, refl}
 use mathlib.Core.List.{List, [], _∷_, _++_, append-assoc}
 use Prim.Native.Nat.{ℕ, zero, suc, _+_, _*_, _≤_, _<_}

@@ -1,5 +1,5 @@
--- Emitting item by item. The code so far is that of the formulas that wait, and their bits are stacked in the array; so an item reads its operands' bits there, its own code
--- makes the code of the new stack, and its last bit takes their place. The items of a loaded rule are those that its columns were made of.
+-- Emitting item by item. The code so far is that of the formulas that wait, and their bits are stacked in the array; so an item reads its operands' bits there,
+-- its own code makes the code of the new stack, and its last bit takes their place. The items of a loaded rule are those that its columns were made of.
 use mathlib.Core.Path.{_≡_, refl, sym, ap, _∙_}
 use mathlib.Core.List.{List, [], _∷_, _++_}
 use Prim.Native.Nat.{ℕ, zero, suc, _+_, _-_, _≤_, _<_}
@@ -10,10 +10,10 @@ use Rattle.reading.specs.InTurn.{bytesOfAll}
 use Rattle.ground.specs.Limits.{limits}
 use Rattle.rules.specs.Formula.{Formula}
 use Rattle.rules.specs.Items.{rowOfItem, apply}
-use Rattle.rules.specs.Inner.Walk.{Stacked}
+use Rattle.ground.specs.Stacked.{Stacked}
 use Rattle.rules.specs.declared.item.Item.{Item}
 use Rattle.rules.proofs.Stack.{applied}
-use Rattle.rules.proofs.Walking.{stacked-drop, stacked-push}
+use Rattle.ground.proofs.Stacked.{stacked-drop, stacked-push}
 use Rattle.emitter.specs.Inner.Emission.{stackCode, fromTop, ownCode, nextOf}
 use Rattle.emitter.specs.Translation.{itemCode, last, behind, afterTwo, translate}
 use Rattle.emitter.specs.Inner.Write.{endAfter}
@@ -56,7 +56,8 @@ unfolding endAfter
 count-of end st h = omega (arith, ap (λ x. x .count) h)
 
 -- the bit below so many others
-bit-below : (e : Emission) (n : ℕ) (st : List Formula) (x : ℕ) → e .depth ≡ n + length st → getD (e .bits) (length (bitsOf st)) 0 ≡ x → fromTop (e .bits) (e .depth) n ≡ x
+bit-below : (e : Emission) (n : ℕ) (st : List Formula) (x : ℕ) → e .depth ≡ n + length st → getD (e .bits) (length (bitsOf st)) 0 ≡ x
+    → fromTop (e .bits) (e .depth) n ≡ x
 unfolding fromTop
 bit-below e n st x d g =
     let there : n ≤ e .depth = omega arith in
@@ -77,7 +78,8 @@ behind-two e g f st i s =
     rw left at (behind-one e g (f ∷ st) i s)
 
 -- An item's own code behind the code of the stack is the code of the new stack
-pub own-code : (e : Emission) (st : List Formula) (i : Item) → Waits e st → rowOfItem i .operands ≤ length st → stackCode (apply i st) ≡ stackCode st ++ ownCode e i
+pub own-code : (e : Emission) (st : List Formula) (i : Item) → Waits e st → rowOfItem i .operands ≤ length st
+    → stackCode (apply i st) ≡ stackCode st ++ ownCode e i
 unfolding apply stackCode translate ownCode itemCode
 own-code e st Item.True s h = refl
 own-code e st Item.False s h = cc (count-of (e .end) st (s .end))
@@ -102,7 +104,8 @@ own-code e (g ∷ []) (Item.Release a b) s h = absurd (omega arith)
 own-code e (g ∷ f ∷ st) (Item.Release a b) s h = behind-two e g f st (Item.Release a b) s
 
 -- Emitting with one item more
-pub follows-more : (e : Emission) (st : List Formula) (i : Item) → Waits e st → rowOfItem i .operands ≤ length st → length st - rowOfItem i .operands < limits .items → Waits (nextOf e i) (apply i st)
+pub follows-more : (e : Emission) (st : List Formula) (i : Item) → Waits e st → rowOfItem i .operands ≤ length st
+    → length st - rowOfItem i .operands < limits .items → Waits (nextOf e i) (apply i st)
 unfolding nextOf bitsOf
 follows-more e st i s h room =
     let a = applied i st h in

@@ -1,5 +1,6 @@
--- The last bit of a formula's code is the formula's meaning: code only grows, so an operand's bit is still there when its item's instructions come, and those make of the operands'
--- bits what the item makes of their meanings. For a timed item that is so as REACH's counter says whether one of the window's places is reached.
+-- The last bit of a formula's code is the formula's meaning: code only grows, so an operand's bit is still there when its item's instructions come, and those
+-- make of the operands' bits what the item makes of their meanings. For a timed item that is so as REACH's counter says whether one of the window's places is
+-- reached.
 use mathlib.Core.Path.{_≡_, refl, sym, ap, _∙_}
 use mathlib.Core.Bool.{Bool, true, false, not, _&&_, _||_, and-self, Bool·not-not}
 use mathlib.Core.List.{List, [], _∷_, _++_}

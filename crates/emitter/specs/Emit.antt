@@ -1,23 +1,16 @@
--- What the emitter answers and writes. Document 01: "Emit: rule, 16", "16 output buffer shorter than the answer", "An entry that writes an answer starts at the buffer's first byte,
--- and the bytes behind the answer stay; emitter and makers also give its length."
+-- What the emitter answers and writes. Document 01: "Emit: rule, 16", "16 output buffer shorter than the answer", "An
+-- entry that writes an answer starts at the buffer's first byte, and the bytes behind the answer stay; emitter and
+-- makers also give its length."
 use mathlib.Core.Bool.{cond}
 use mathlib.Core.List.{List, []}
-use Prim.Native.Nat.{ℕ, _+_, _*_}
+use mathlib.Core.Path.{_≡_}
+use Prim.Native.Nat.{ℕ}
 use lib.ListN.{length}
 use Rattle.ground.specs.Buffers.{tooShort, over}
-use Rattle.ground.specs.Limits.{limits}
 use Rattle.ground.specs.declared.refusal.Refusal.{Refusal}
-use Rattle.rules.specs.Loading.{Reading, accepted, refused}
+use Rattle.rules.specs.Loading.{Reading, accepted, refused, readRule}
 use Rattle.emitter.specs.Translation.{codeBytes}
 use Rattle.emitter.specs.declared.emit.Emitted.{Emitted}
-
--- A bound on the instructions of emitted code: three for each item, and two more for each timed one
-abbrev pub mostInstructions : ℕ
-mostInstructions = 3 * limits .items + 2 * limits .timed
-
--- A bound on its bytes: five for an instruction, and two more for each REACH, of which a timed item has one
-abbrev pub mostCodeBytes : ℕ
-mostCodeBytes = 5 * mostInstructions + 2 * limits .timed
 
 -- The bytes of the code of a rule that was read; a refused one has none
 abbrev pub bytesFor : Reading → List ℕ
@@ -34,3 +27,8 @@ emittedOf (refused r) out = Emitted.Refused r
 abbrev pub outAfter : Emitted → Reading → List ℕ → List ℕ
 outAfter (Emitted.Length n) read out = over (bytesFor read) out
 outAfter (Emitted.Refused r) read out = out
+
+-- What `emit` says of a rule's bytes, the output buffer before, the answer, and the buffer after
+abbrev pub EmitSays : List ℕ → List ℕ → Emitted → List ℕ → Type 0
+EmitSays rule before answer after =
+    (answer ≡ emittedOf (readRule rule) before) × (after ≡ outAfter answer (readRule rule) before)

@@ -1,6 +1,8 @@
--- Emitted code. Document 01, "The sequencer": "Emitted code, for each item in order after its operands (N means NAND of a bit with itself)", and its table: "true; flag: ONE;
--- FLAG. false: ONE, N. not: N. and: NAND, N. or: N left, N right, NAND of the two. until: REACH left right b−a, LATER a. release: N left, N right, REACH of the two b−a,
--- LATER a, N. eventually: ONE, REACH that and the operand b−a, LATER a. globally: ONE, N operand, REACH of the two b−a, LATER a, N. LATER is left out when a = 0."
+-- Emitted code. Document 01, "The sequencer": "Emitted code, for each item in order after its operands (N means NAND of
+-- a bit with itself)", and its table: "true; flag: ONE; FLAG. false: ONE, N. not: N. and: NAND, N. or: N left, N right,
+-- NAND of the two. until: REACH left right b−a, LATER a. release: N left, N right, REACH of the two b−a, LATER a, N.
+-- eventually: ONE, REACH that and the operand b−a, LATER a. globally: ONE, N operand, REACH of the two b−a, LATER a, N.
+-- LATER is left out when a = 0."
 use mathlib.Core.List.{List, [], _∷_, _++_}
 use Prim.Native.Nat.{ℕ, zero, suc, _+_, _-_}
 use lib.ListN.{length}
@@ -26,7 +28,12 @@ laterBy i (suc a) = Later i (suc a) ∷ []
 unfoldable pub timed : ℕ → ℕ → ℕ → ℕ → ℕ → Code
 timed n i j a b = Reach i j (b - a) ∷ laterBy n a
 
--- The table: the instructions of an item, the first of which has number n. left and right are the numbers of its operands' bits, and right that of a lone operand's
+-- The same, inverted
+abbrev pub notTimed : ℕ → ℕ → ℕ → ℕ → ℕ → Code
+notTimed n i j a b = thenN n (timed n i j a b)
+
+-- The table: the instructions of an item, the first of which has number n. left and right are the numbers of its
+-- operands' bits, and right that of a lone operand's
 unfoldable pub itemCode : ℕ → Item → ℕ → ℕ → Code
 itemCode n Item.True left right = One ∷ []
 itemCode n (Item.Flag k) left right = Flag k ∷ []
@@ -35,9 +42,9 @@ itemCode n Item.Not left right = N right ∷ []
 itemCode n Item.And left right = thenN n (Nand left right ∷ [])
 itemCode n Item.Or left right = N left ∷ N right ∷ Nand n (n + 1) ∷ []
 itemCode n (Item.Until a b) left right = timed n left right a b
-itemCode n (Item.Release a b) left right = N left ∷ N right ∷ thenN (n + 2) (timed (n + 2) n (n + 1) a b)
+itemCode n (Item.Release a b) left right = N left ∷ N right ∷ notTimed (n + 2) n (n + 1) a b
 itemCode n (Item.Eventually a b) left right = One ∷ timed (n + 1) n right a b
-itemCode n (Item.Globally a b) left right = One ∷ N right ∷ thenN (n + 2) (timed (n + 2) n (n + 1) a b)
+itemCode n (Item.Globally a b) left right = One ∷ N right ∷ notTimed (n + 2) n (n + 1) a b
 
 -- The number of the last instruction
 abbrev pub last : Code → ℕ
@@ -55,7 +62,7 @@ alone c item = behind c item 0 0
 abbrev pub afterOne : Code → Item → Code
 afterOne d item = behind d item 0 (last d)
 
--- The same of an item whose left operand's code ends d, and whose right operand's ends e, which is d with more behind it
+-- The same of an item whose left operand's code ends d, and whose right operand's ends e: d with more behind it
 abbrev pub afterTwo : Code → Code → Item → Code
 afterTwo d e item = behind e item (last d) (last e)
 
@@ -76,6 +83,10 @@ translate c (Formula.Globally a b f) = afterOne (translate c f) (Item.Globally a
 abbrev pub codeFor : Formula → Code
 codeFor f = translate [] f
 
--- The same as bytes, every number in its shortest form
+-- Code as bytes, every number in its shortest form
+abbrev pub bytesOfCode : Code → List ℕ
+bytesOfCode code = bytesOfAll bytesOfInstruction code
+
+-- The bytes of the code of a formula
 abbrev pub codeBytes : Formula → List ℕ
-codeBytes f = bytesOfAll bytesOfInstruction (codeFor f)
+codeBytes f = bytesOfCode (codeFor f)

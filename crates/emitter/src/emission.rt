@@ -1,15 +1,8 @@
 // Emitting a rule item by item: the instructions of each, behind those of the items before it.
 ghost use mathlib.Core.Path.{_≡_};
 ghost use Prim.Native.Nat.{_≤_};
-ghost use lib.ListN.{length};
-ghost use Rattle.ground.specs.Buffers.{over};
-ghost use Rattle.reading.specs.InTurn.{bytesOfAll};
 ghost use Rattle.ground.specs.Limits.{limits};
-ghost use Rattle.rules.specs.Loading.{stackOf};
-ghost use Rattle.code.specs.Code.{bytesOfInstruction};
-ghost use Rattle.emitter.specs.Inner.Write.{CodeWrote};
-ghost use Rattle.emitter.specs.Inner.Emission.{stackCode, fromTop, ownCode, nextOf, CanEmitNext, CanEmit};
-ghost use Rattle.rules.specs.Loaded.{itemsIn};
+ghost use Rattle.emitter.specs.Inner.Emission.{fromTop, CanEmitNext, EmittedNext, CanEmit, EmittedItems};
 use crate::item::emit_item;
 use crate::write::CodeEnd;
 use ground::limits::MOST_ITEMS;
@@ -18,7 +11,8 @@ use rules::item::item_of;
 use rules::item::row_of;
 use rules::load::Rule;
 
-// Where emitting stands: the end of the code so far, and the numbers of the bits of the values that wait for an operator.
+// Where emitting stands: the end of the code so far, and the numbers of the bits of the values that wait for an
+// operator.
 pub(crate) struct Emission {
     pub end: CodeEnd,
     pub bits: [u16; MOST_ITEMS],
@@ -39,7 +33,7 @@ fn from_top(bits: [u16; MOST_ITEMS], depth: usize, below: usize) -> u16
 // Emits one item more, whose operands are the last values.
 fn emit_next(out: &mut [u8], emission: Emission, item: Item) -> Emission
     requires { ⌜ CanEmitNext (now out) emission item ⌝ }
-    ensures { λ r. ⌜ (r ≡ nextOf emission item) × CodeWrote (now (out .entry)) (emission .end) (ownCode emission item) (now (out .exit)) (r .end) ⌝ }
+    ensures { λ r. ⌜ EmittedNext (now (out .entry)) emission item (now (out .exit)) r ⌝ }
 {
     let mut bits = emission.bits;
     let depth = emission.depth;
@@ -58,7 +52,7 @@ fn emit_next(out: &mut [u8], emission: Emission, item: Item) -> Emission
 // Emits the items of a rule in turn, from the buffer's first byte on, and answers the length of the code.
 pub(crate) fn emit_items(rule: Rule, items: usize, out: &mut [u8]) -> usize
     requires { ⌜ CanEmit rule items (now out) ⌝ }
-    ensures { λ r. ⌜ (r ≡ length (bytesOfAll bytesOfInstruction (stackCode (stackOf (itemsIn rule items))))) × (now (out .exit) ≡ over (bytesOfAll bytesOfInstruction (stackCode (stackOf (itemsIn rule items)))) (now (out .entry))) ⌝ }
+    ensures { λ r. ⌜ EmittedItems rule items (now (out .entry)) r (now (out .exit)) ⌝ }
 {
     let mut emission = Emission {
         end: CodeEnd { at: 0, count: 0 },

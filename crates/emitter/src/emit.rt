@@ -1,19 +1,16 @@
 // The emitter: a rule's bytes in, sequencer code out.
 ghost use mathlib.Core.List.{List};
-ghost use mathlib.Core.Path.{_≡_};
 ghost use Prim.Native.Nat.{ℕ};
-ghost use Rattle.rules.specs.Loading.{readRule};
-ghost use Rattle.emitter.specs.Emit.{mostCodeBytes, emittedOf, outAfter};
+ghost use Rattle.emitter.specs.Emit.{EmitSays};
+ghost use Rattle.emitter.specs.Inner.Emission.{LoadedSays};
 ghost use Rattle.rules.specs.Loaded.{LoadedFrom};
 use crate::emission::emit_items;
 use bytes::copy;
+use ground::limits::MOST_CODE;
 use ground::refusal::Refusal;
 use rules::load::Loaded;
 use rules::load::Rule;
 use rules::load::decode;
-
-// A bound on the bytes of emitted code: a buffer of so many always holds it.
-pub const MOST_CODE: usize = 1_152;
 
 // What emitting answers: the length of the code, or the refusal.
 pub enum Emitted {
@@ -21,17 +18,10 @@ pub enum Emitted {
     Refused(Refusal),
 }
 
-// The bound, as a value.
-pub fn most_code() -> usize
-    ensures { λ r. ⌜ r ≡ mostCodeBytes ⌝ }
-{
-    MOST_CODE
-}
-
 // Emits the code of a rule that was loaded, as `emit` does for its bytes; a rule that was refused gives its refusal.
-pub fn emit_rule(rule: Rule, out: &mut [u8]) -> Emitted
+pub(crate) fn emit_rule(rule: Rule, out: &mut [u8]) -> Emitted
     requires { ⌜ ((bytes : List ℕ) × LoadedFrom bytes rule) ⌝ }
-    ensures { λ r. ⌜ ((bytes : List ℕ) → LoadedFrom bytes rule → (r ≡ emittedOf (readRule bytes) (now (out .entry))) × (now (out .exit) ≡ outAfter r (readRule bytes) (now (out .entry)))) ⌝ }
+    ensures { λ r. ⌜ LoadedSays rule (now (out .entry)) r (now (out .exit)) ⌝ }
 {
     let loaded = rule.loaded;
     match loaded {
@@ -48,10 +38,10 @@ pub fn emit_rule(rule: Rule, out: &mut [u8]) -> Emitted
     }
 }
 
-// Emits the code of a rule into a buffer, from its first byte on; the bytes behind the code stay. A refusal, of the rule, then 16, changes
-// nothing.
+// Emits the code of a rule into a buffer, from its first byte on; the bytes behind the code stay. A refusal, of the
+// rule, then 16, changes nothing.
 pub fn emit(rule: &[u8], out: &mut [u8]) -> Emitted
-    ensures { λ r. ⌜ (r ≡ emittedOf (readRule (now (rule .entry))) (now (out .entry))) × (now (out .exit) ≡ outAfter r (readRule (now (rule .entry))) (now (out .entry))) ⌝ }
+    ensures { λ r. ⌜ EmitSays (now (rule .entry)) (now (out .entry)) r (now (out .exit)) ⌝ }
 {
     emit_rule(decode(rule), out)
 }

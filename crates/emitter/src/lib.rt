@@ -2,4 +2,5 @@
 mod emission;
 pub mod emit;
 mod item;
+pub mod prepare;
 mod write;

@@ -1,4 +1,5 @@
--- `emit_items` meets its contract. The loop's invariant is `EmittedTo`: the buffer holds the code of the items so far. The measure is how many items are to come.
+-- `emit_items` meets its contract. The loop's invariant is `EmittedTo`: the buffer holds the code of the items so far. The measure is how many items are to
+-- come.
 use mathlib.Core.Path.{refl}
 use Prim.Native.Nat.{_-_, _≤_}
 use native.Mathlib.Omega.{arith}
@@ -44,7 +45,10 @@ item-of-requires c κs = search needs
 
 emit-next-requires : tie.Need-emit-next-requires Inv-loop μ-loop
 unfolding itemIn
-emit-next-requires c κs = let i = c .before .before .before .before .before .before .before .loop .inv in stands-next _ _ _ (i .0) _ _ _ (i .1) (omega arith) _ (c .before .item-of .ensures)
+emit-next-requires c κs =
+    let chosen = c .before in
+    let i = chosen .before .before .before .before .before .before .loop .inv in
+    stands-next _ _ _ (i .0) _ _ _ (i .1) (omega arith) _ (chosen .item-of .ensures)
 
 add-k : tie.Need-add-k Inv-loop μ-loop
 add-k c = omega arith
@@ -54,7 +58,11 @@ loop-less c = omega arith
 
 loop-again : tie.Need-loop-again Inv-loop μ-loop
 unfolding itemIn
-loop-again c = let i = c .before .before .before .before .before .before .before .before .before .before .loop .inv in (i .0, stands-more _ _ _ (i .0) _ _ _ (i .1) (omega arith) _ (c .before .before .before .before .item-of .ensures) _ _ (c .before .before .emit-next .ensures), omega arith)
+loop-again c =
+    let emitted = c .before .before in
+    let chosen = emitted .before .before in
+    let i = chosen .before .before .before .before .before .before .loop .inv in
+    (i .0, stands-more _ _ _ (i .0) _ _ _ (i .1) (omega arith) _ (chosen .item-of .ensures) _ _ (emitted .emit-next .ensures), omega arith)
 
 same-length : tie.Need-same-length Inv-loop μ-loop
 same-length c = let i = c .before .loop .inv in stands-length _ _ _ _ _ (i .1)

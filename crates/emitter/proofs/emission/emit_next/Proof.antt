@@ -11,22 +11,32 @@ from-top-requires-2 : tie.Need-from-top-requires-2
 from-top-requires-2 c κs = search needs
 
 emit-item-requires : tie.Need-emit-item-requires
-emit-item-requires c κs = next-ready _ _ _ (c .before .before .before .before .before .pre) _ _ (c .before .before .from-top .ensures) (c .before .from-top2 .ensures)
+emit-item-requires c κs =
+    let tops = c .before in
+    next-ready _ _ _ (tops .before .before .before .before .pre) _ _ (tops .before .from-top .ensures) (tops .from-top2 .ensures)
 
 row-of-requires : tie.Need-row-of-requires
 row-of-requires c κs = search needs
 
 sub-bottom : tie.Need-sub-bottom
-sub-bottom c = rw (c .before .row-of .ensures) (c .before .before .before .before .before .before .before .before .before .before .pre .operands)
+sub-bottom c =
+    let rowed = c .before in
+    rw (rowed .row-of .ensures) (rowed .before .before .before .before .before .before .before .before .before .pre .operands)
 
 sub-bits : tie.Need-sub-bits
-sub-bits c = next-bit _ _ _ (c .before .before .before .before .before .before .before .before .before .before .before .pre) _ _ (c .before .before .before .before .before .before .before .before .from-top .ensures) (c .before .before .before .before .before .before .before .from-top2 .ensures) _ _ (c .before .before .before .before .before .emit-item .ensures)
+sub-bits c =
+    let emitted = c .before .before .before .before .before in
+    let tops = emitted .before .before in
+    let ready = tops .before .before .before .before .pre in
+    next-bit _ _ _ ready _ _ (tops .before .from-top .ensures) (tops .from-top2 .ensures) _ _ (emitted .emit-item .ensures)
 
 mul-bits : tie.Need-mul-bits
 mul-bits c = search needs
 
 array-write-bits : tie.Need-array-write-bits
-array-write-bits c = rw (c .before .before .row-of .ensures) (c .before .before .before .before .before .before .before .before .before .before .before .pre .depth)
+array-write-bits c =
+    let rowed = c .before .before in
+    rw (rowed .row-of .ensures) (rowed .before .before .before .before .before .before .before .before .before .pre .depth)
 
 add-t15 : tie.Need-add-t15
 add-t15 c = search needs
@@ -35,7 +45,12 @@ same-length : tie.Need-same-length
 same-length c = search needs
 
 returns : tie.Need-returns
-returns c = next-wrote _ _ _ (c .before .before .before .before .before .before .before .before .before .before .before .pre) _ _ (c .before .before .before .before .before .before .before .before .from-top .ensures) (c .before .before .before .before .before .before .before .from-top2 .ensures) _ _ (c .before .before .before .before .before .emit-item .ensures) _ (c .before .before .row-of .ensures)
+returns c =
+    let rowed = c .before .before in
+    let emitted = rowed .before .before .before in
+    let tops = emitted .before .before in
+    let ready = tops .before .before .before .before .pre in
+    next-wrote _ _ _ ready _ _ (tops .before .from-top .ensures) (tops .from-top2 .ensures) _ _ (emitted .emit-item .ensures) _ (rowed .row-of .ensures)
 
 pub emit-next-spec : {M : Type 1} → statement M
 emit-next-spec =

@@ -10,18 +10,23 @@ use Rattle.emitter.proofs.item.emit_and.Tie as tie
 
 nand-requires : tie.Need-nand-requires
 unfolding itemCode
-nand-requires c κs = room-first _ _ (Nand _ _ ∷ []) _ (c .before .before .pre)
+nand-requires c κs = room-first _ _ (Nand _ _ ∷ []) _ (c .before .before .pre .room)
 
 invert-requires : tie.Need-invert-requires
 unfolding itemCode
-invert-requires c κs = not-room _ _ (Nand _ _ ∷ []) (c .before .before .before .before .before .before .pre) _ _ (c .before .before .before .nand .ensures) (omega arith)
+invert-requires c κs =
+    let first = c .before .before .before in
+    not-room _ _ (Nand _ _ ∷ []) (first .before .before .before .pre .room) _ _ (first .nand .ensures) (omega arith)
 
 same-length : tie.Need-same-length
 same-length c = search needs
 
 returns : tie.Need-returns
 unfolding itemCode
-returns c = not-wrote _ _ (Nand _ _ ∷ []) (c .before .before .before .before .before .before .before .before .before .pre) _ _ (c .before .before .before .before .before .before .nand .ensures) _ _ (c .before .before .invert .ensures)
+returns c =
+    let inverted = c .before .before in
+    let first = inverted .before .before .before .before in
+    not-wrote _ _ (Nand _ _ ∷ []) (first .before .before .before .pre .room) _ _ (first .nand .ensures) _ _ (inverted .invert .ensures)
 
 pub emit-and-spec : {M : Type 1} → statement M
 emit-and-spec = tie.close (tie.spec nand-requires invert-requires same-length returns)

@@ -7,16 +7,23 @@ use Rattle.emitter.proofs.item.emit_eventually.Statement.{statement}
 use Rattle.emitter.proofs.item.emit_eventually.Tie as tie
 
 one-requires : tie.Need-one-requires
-one-requires c κs = one-room _ _ _ _ _ _ _ refl refl (c .before .before .pre .1)
+one-requires c κs = one-room _ _ _ _ _ _ _ refl refl (c .before .before .pre .room)
 
 timed-requires : tie.Need-timed-requires
-timed-requires c κs = (c .before .before .before .before .before .before .pre .0, eventually-room _ _ _ _ _ _ _ (omega arith) (omega arith) (c .before .before .before .before .before .before .pre .1) _ _ (c .before .before .before .one .ensures))
+timed-requires c κs =
+    let first = c .before .before .before in
+    let ready = first .before .before .before .pre in
+    (ready .window, eventually-room _ _ _ _ _ _ _ (omega arith) (omega arith) (ready .room) _ _ (first .one .ensures))
 
 same-length : tie.Need-same-length
 same-length c = search needs
 
 returns : tie.Need-returns
-returns c = eventually-wrote _ _ _ _ _ _ _ (omega arith) (omega arith) (c .before .before .before .before .before .before .before .before .before .pre .1) _ _ (c .before .before .before .before .before .before .one .ensures) _ _ (c .before .before .timed .ensures)
+returns c =
+    let second = c .before .before in
+    let first = second .before .before .before .before in
+    let room = first .before .before .before .pre .room in
+    eventually-wrote _ _ _ _ _ _ _ (omega arith) (omega arith) room _ _ (first .one .ensures) _ _ (second .timed .ensures)
 
 pub emit-eventually-spec : {M : Type 1} → statement M
 emit-eventually-spec = tie.close (tie.spec one-requires timed-requires same-length returns)

@@ -10,18 +10,23 @@ use Rattle.emitter.proofs.item.emit_false.Tie as tie
 
 one-requires : tie.Need-one-requires
 unfolding itemCode
-one-requires c κs = room-first _ _ (One ∷ []) _ (c .before .before .pre)
+one-requires c κs = room-first _ _ (One ∷ []) _ (c .before .before .pre .room)
 
 invert-requires : tie.Need-invert-requires
 unfolding itemCode
-invert-requires c κs = not-room _ _ (One ∷ []) (c .before .before .before .before .before .before .pre) _ _ (c .before .before .before .one .ensures) (omega arith)
+invert-requires c κs =
+    let first = c .before .before .before in
+    not-room _ _ (One ∷ []) (first .before .before .before .pre .room) _ _ (first .one .ensures) (omega arith)
 
 same-length : tie.Need-same-length
 same-length c = search needs
 
 returns : tie.Need-returns
 unfolding itemCode
-returns c = not-wrote _ _ (One ∷ []) (c .before .before .before .before .before .before .before .before .before .pre) _ _ (c .before .before .before .before .before .before .one .ensures) _ _ (c .before .before .invert .ensures)
+returns c =
+    let inverted = c .before .before in
+    let first = inverted .before .before .before .before in
+    not-wrote _ _ (One ∷ []) (first .before .before .before .pre .room) _ _ (first .one .ensures) _ _ (inverted .invert .ensures)
 
 pub emit-false-spec : {M : Type 1} → statement M
 emit-false-spec = tie.close (tie.spec one-requires invert-requires same-length returns)

@@ -8,25 +8,36 @@ use Rattle.emitter.proofs.item.emit_globally.Tie as tie
 
 one-requires : tie.Need-one-requires
 unfolding itemCode
-one-requires c κs = first-room _ _ One (N _) (then-not-timed _ _ _ _) (c .before .before .pre .1)
+one-requires c κs = first-room _ _ One (N _) (then-not-timed _ _ _ _) (c .before .before .pre .room)
 
 nand-requires : tie.Need-nand-requires
 unfolding itemCode
-nand-requires c κs = second-room _ _ One (N _) (then-not-timed _ _ _ _) (c .before .before .before .before .before .before .pre .1) _ _ (c .before .before .before .one .ensures)
+nand-requires c κs =
+    let first = c .before .before .before in
+    second-room _ _ One (N _) (then-not-timed _ _ _ _) (first .before .before .before .pre .room) _ _ (first .one .ensures)
 
 add-emit-not-timed : tie.Need-add-emit-not-timed
 add-emit-not-timed c = search needs
 
 emit-not-timed-requires : tie.Need-emit-not-timed-requires
 unfolding itemCode
-emit-not-timed-requires c κs = (c .before .before .before .before .before .before .before .before .before .before .pre .0, third-room _ _ One (N _) (then-not-timed _ _ _ _) (c .before .before .before .before .before .before .before .before .before .before .pre .1) _ _ (c .before .before .before .before .before .before .before .one .ensures) _ _ (c .before .before .before .nand .ensures))
+emit-not-timed-requires c κs =
+    let second = c .before .before .before in
+    let first = second .before .before .before .before in
+    let ready = first .before .before .before .pre in
+    (ready .window, third-room _ _ One (N _) (then-not-timed _ _ _ _) (ready .room) _ _ (first .one .ensures) _ _ (second .nand .ensures))
 
 same-length : tie.Need-same-length
 same-length c = search needs
 
 returns : tie.Need-returns
 unfolding itemCode
-returns c = third-wrote _ _ One (N _) (then-not-timed _ _ _ _) (c .before .before .before .before .before .before .before .before .before .before .before .before .before .pre .1) _ _ (c .before .before .before .before .before .before .before .before .before .before .one .ensures) _ _ (c .before .before .before .before .before .before .nand .ensures) _ _ (c .before .before .emit-not-timed .ensures)
+returns c =
+    let third = c .before .before in
+    let second = third .before .before .before .before in
+    let first = second .before .before .before .before in
+    let room = first .before .before .before .pre .room in
+    third-wrote _ _ One (N _) (then-not-timed _ _ _ _) room _ _ (first .one .ensures) _ _ (second .nand .ensures) _ _ (third .emit-not-timed .ensures)
 
 pub emit-globally-spec : {M : Type 1} → statement M
 emit-globally-spec =

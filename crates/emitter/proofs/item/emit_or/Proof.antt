@@ -7,25 +7,36 @@ use Rattle.emitter.proofs.item.emit_or.Tie as tie
 
 nand-requires : tie.Need-nand-requires
 unfolding itemCode
-nand-requires c κs = first-room _ _ (N _) (N _) (then-nand _ _) (c .before .before .pre)
+nand-requires c κs = first-room _ _ (N _) (N _) (then-nand _ _) (c .before .before .pre .room)
 
 nand-requires-2 : tie.Need-nand-requires-2
 unfolding itemCode
-nand-requires-2 c κs = second-room _ _ (N _) (N _) (then-nand _ _) (c .before .before .before .before .before .before .pre) _ _ (c .before .before .before .nand .ensures)
+nand-requires-2 c κs =
+    let first = c .before .before .before in
+    second-room _ _ (N _) (N _) (then-nand _ _) (first .before .before .before .pre .room) _ _ (first .nand .ensures)
 
 add-nand : tie.Need-add-nand
 add-nand c = search needs
 
 nand-requires-3 : tie.Need-nand-requires-3
 unfolding itemCode
-nand-requires-3 c κs = third-room _ _ (N _) (N _) (then-nand _ _) (c .before .before .before .before .before .before .before .before .before .before .pre) _ _ (c .before .before .before .before .before .before .before .nand .ensures) _ _ (c .before .before .before .nand2 .ensures)
+nand-requires-3 c κs =
+    let second = c .before .before .before in
+    let first = second .before .before .before .before in
+    let ready = first .before .before .before .pre in
+    third-room _ _ (N _) (N _) (then-nand _ _) (ready .room) _ _ (first .nand .ensures) _ _ (second .nand2 .ensures)
 
 same-length : tie.Need-same-length
 same-length c = search needs
 
 returns : tie.Need-returns
 unfolding itemCode
-returns c = third-wrote _ _ (N _) (N _) (then-nand _ _) (c .before .before .before .before .before .before .before .before .before .before .before .before .before .pre) _ _ (c .before .before .before .before .before .before .before .before .before .before .nand .ensures) _ _ (c .before .before .before .before .before .before .nand2 .ensures) _ _ (c .before .before .nand3 .ensures)
+returns c =
+    let third = c .before .before in
+    let second = third .before .before .before .before in
+    let first = second .before .before .before .before in
+    let room = first .before .before .before .pre .room in
+    third-wrote _ _ (N _) (N _) (then-nand _ _) room _ _ (first .nand .ensures) _ _ (second .nand2 .ensures) _ _ (third .nand3 .ensures)
 
 pub emit-or-spec : {M : Type 1} → statement M
 emit-or-spec =

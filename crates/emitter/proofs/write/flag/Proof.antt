@@ -19,7 +19,10 @@ same-length : tie.Need-same-length
 same-length c = search needs
 
 returns : tie.Need-returns
-returns c = wrote (Flag _) _ _ _ _ (c .before .before .before .before .before .before .before .before .before .before .pre) (_, _, c .before .before .before .before .before .before .before .write-number .ensures, (_, _, c .before .before .before .write-number2 .ensures, (refl, refl)))
+returns c =
+    let second = c .before .before .before in
+    let first = second .before .before .before .before in
+    wrote (Flag _) _ _ _ _ (first .before .before .before .pre) (_, _, first .write-number .ensures, (_, _, second .write-number2 .ensures, (refl, refl)))
 
 pub flag-spec : {M : Type 1} → statement M
 flag-spec =

@@ -16,7 +16,9 @@ same-length : tie.Need-same-length
 same-length c = search needs
 
 returns : tie.Need-returns
-returns c = wrote One _ _ _ _ (c .before .before .before .before .before .before .pre) (_, _, c .before .before .before .write-number .ensures, (refl, refl))
+returns c =
+    let first = c .before .before .before in
+    wrote One _ _ _ _ (first .before .before .before .pre) (_, _, first .write-number .ensures, (refl, refl))
 
 pub one-spec : {M : Type 1} → statement M
 one-spec = tie.close (tie.spec write-number-requires add-count same-length returns)

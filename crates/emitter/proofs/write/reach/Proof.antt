@@ -25,7 +25,22 @@ same-length : tie.Need-same-length
 same-length c = search needs
 
 returns : tie.Need-returns
-returns c = wrote (Reach _ _ _) _ _ _ _ (c .before .before .before .before .before .before .before .before .before .before .before .before .before .before .before .before .before .before .pre) (_, _, c .before .before .before .before .before .before .before .before .before .before .before .before .before .before .before .write-number .ensures, (_, _, c .before .before .before .before .before .before .before .before .before .before .before .write-number2 .ensures, (_, _, c .before .before .before .before .before .before .before .write-number3 .ensures, (_, _, c .before .before .before .write-number4 .ensures, (refl, refl)))))
+returns c =
+    let fourth = c .before .before .before in
+    let third = fourth .before .before .before .before in
+    let second = third .before .before .before .before in
+    let first = second .before .before .before .before in
+    wrote (Reach _ _ _) _ _ _ _ (first .before .before .before .pre) (
+      _,
+      _,
+      first .write-number .ensures,
+      (
+        _,
+        _,
+        second .write-number2 .ensures,
+        (_, _, third .write-number3 .ensures, (_, _, fourth .write-number4 .ensures, (refl, refl))),
+      ),
+    )
 
 pub reach-spec : {M : Type 1} → statement M
 reach-spec =
