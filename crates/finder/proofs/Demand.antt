@@ -1,5 +1,5 @@
--- Demand 2. What `search` says of an accepted rule is a right answer in the paper's meaning, and of the three kinds of answer only one is right: so "no room" and "none" come exactly
--- where the demand has them. The first clip that satisfies has at most horizon + 1 frames, so it stands within the witness buffer.
+-- Demand 2. What `search` says of an accepted rule is a right answer in the paper's meaning, and of the three kinds of answer only one is right: so "no room"
+-- and "none" come exactly where the demand has them. The first clip that satisfies has at most horizon + 1 frames, so it stands within the witness buffer.
 use mathlib.Core.Path.{_≡_, refl, ap}
 use mathlib.Core.List.{List}
 use Prim.Native.Nat.{ℕ, _+_, _≤_}
@@ -23,7 +23,8 @@ use Rattle.finder.proofs.Answered.{first-short, answers-said}
 use Rattle.finder.proofs.search.search.Reads as search
 
 -- The contract is what the function ensures
-pub search-says : (κs : _) (a : _) (r : _) (x : _) → search.Post κs a r x → SearchSays (readRule (a .0 .now)) (a .1 .0 .now) (a .1 .1 .0 .now) r (x .1 .0 .now) (x .1 .1 .0 .now)
+pub search-says : (κs : _) (a : _) (r : _) (x : _) → search.Post κs a r x
+    → SearchSays (readRule (a .0 .now)) (a .1 .0 .now) (a .1 .1 .0 .now) r (x .1 .0 .now) (x .1 .1 .0 .now)
 search-says κs a r x p = p
 
 module _ (f : Formula) (table witness : List ℕ) (room : horizon f + 1 ≤ length witness) where

@@ -6,5 +6,4 @@ pub mod Witness
 pub mod Answered
 pub mod Demand
 pub mod Unique
-pub mod Samples
 pub mod Small

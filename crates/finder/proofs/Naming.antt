@@ -1,5 +1,5 @@
--- A byte with a flag that code does not name leads where a smaller byte leads. A step sees only the flags that its code names, and a byte without one of its flags has its other
--- flags as before and is smaller. The loops go on by one instruction, one flag or one byte more.
+-- A byte with a flag that code does not name leads where a smaller byte leads. A step sees only the flags that its code names, and a byte without one of its
+-- flags has its other flags as before and is smaller. The loops go on by one instruction, one flag or one byte more.
 use mathlib.Core.Path.{_≡_, refl, ap, _∙_, sym, subst}
 use mathlib.Core.Bool.{Bool, true, false, not, cond, false≢true}
 use mathlib.Core.List.{List, [], _∷_}
@@ -12,11 +12,10 @@ use lib.ListN.{length, getD, set, length-set}
 use lib.Seq.{getD-set-same, getD-set-other}
 use Rattle.ground.specs.Frames.{hasFlag}
 use Rattle.paths.specs.Inner.Searching.{frameBytes}
-use Rattle.code.specs.Code.{Instruction, One, Flag, Nand, Reach, Later, Code, instructionOf}
-use Rattle.code.specs.Programs.{instructionAt, codeIn, Sound}
+use Rattle.code.specs.Code.{Instruction, One, Flag, Nand, Reach, Later, Code, perInstruction, instructionOf}
+use Rattle.code.specs.Programs.{instructionAt, numberIn, countIn, codeAs, Sound}
 use Rattle.sequencer.specs.Registers.{Working, execute, executed}
-use Rattle.code.proofs.Flat.{code-length, code-at, fine-at}
-use Rattle.sequencer.proofs.Through.{at-flag}
+use Rattle.code.proofs.Flat.{code-length, code-at, fine-at, at-flag}
 use Rattle.finder.specs.Inner.Flags.{flags, Names, NamedBy, Other, Passed, PassesOver}
 use Rattle.table.proofs.Records.{one-more}
 
@@ -77,7 +76,8 @@ without-less (suc k) b h = omega (arith, without-less k (b / 2) (sym (flag-half 
 
 -- A byte that is passed over leads where a smaller byte leads
 
-pub passed-alike : (code : Code) (passed : List Bool) → PassesOver code passed → (b : ℕ) → b < frameBytes → getD passed b false ≡ true → (x : ℕ) × (x < b) × ((s : Working) → executed x code s ≡ executed b code s)
+pub passed-alike : (code : Code) (passed : List Bool) → PassesOver code passed → (b : ℕ) → b < frameBytes → getD passed b false ≡ true → (x : ℕ) × (x < b)
+    × ((s : Working) → executed x code s ≡ executed b code s)
 passed-alike code passed over b h e =
     let o = over .own b h e in
     let k = o .0 in
@@ -118,14 +118,14 @@ module _ (i j w k : ℕ) where
   not-flag code h e = absurd (omega (arith, apart (eqb code 0x01) (eqb code 0x03) (eqb code 0x04) (rw (ne-eqb code 0x02 h) at e)))
 
 module _ (numbers : List ℕ) (n : ℕ) where
-  at-other : (getD numbers (4 * n) 0 ≡ 0x02 → ⊥) → (k : ℕ) → instructionAt numbers n ≡ Flag k → ⊥
+  at-other : (getD numbers (perInstruction * n) 0 ≡ 0x02 → ⊥) → (k : ℕ) → instructionAt numbers n ≡ Flag k → ⊥
   unfolding instructionAt
   at-other h k e = not-flag _ _ _ k _ h e
 
   -- the flag of a FLAG is one of a frame
-  pub flag-inside : (count : ℕ) → Sound numbers count → n < count → getD numbers (4 * n) 0 ≡ 0x02 → getD numbers (4 * n + 1) 0 < flags
-  flag-inside count s h e =
-      let fine = rw (at-flag numbers n e) at (fine-at numbers count n (s .good) h) in
+  pub flag-inside : Sound numbers → n < countIn numbers → getD numbers (perInstruction * n) 0 ≡ 0x02 → numberIn numbers n 1 < flags
+  flag-inside s h e =
+      let fine = rw (at-flag numbers n e) at (fine-at numbers (countIn numbers) n (s .good) h) in
       omega (arith, fine .flag)
 
   module _ {named : List Bool} (s : NamedTo numbers n named) where
@@ -133,7 +133,8 @@ module _ (numbers : List ℕ) (n : ℕ) where
     named-flag i e h =
         record {
           all = length-set named i true ∙ s .all;
-          own = one-more (λ m. (k : ℕ) → instructionAt numbers m ≡ Flag k → getD (set named i true) k false ≡ true) n (λ m l k q. stays named i k (s .own m l k q)) own;
+          own = one-more (λ m. (k : ℕ) → instructionAt numbers m ≡ Flag k → getD (set named i true) k false ≡ true) n
+              (λ m l k q. stays named i k (s .own m l k q)) own;
         }
       where
         own : (k : ℕ) → instructionAt numbers n ≡ Flag k → getD (set named i true) k false ≡ true
@@ -141,7 +142,7 @@ module _ (numbers : List ℕ) (n : ℕ) where
             let same : k ≡ i = cc (q, e) in
             rw same (getD-set-same named i true false (omega (arith, s .all)))
 
-    pub named-other : (getD numbers (4 * n) 0 ≡ 0x02 → ⊥) → NamedTo numbers (n + 1) named
+    pub named-other : (getD numbers (perInstruction * n) 0 ≡ 0x02 → ⊥) → NamedTo numbers (n + 1) named
     named-other h =
         record {
           all = s .all;
@@ -151,11 +152,13 @@ module _ (numbers : List ℕ) (n : ℕ) where
 pub named-first : (numbers : List ℕ) (named : List Bool) → length named ≡ flags → NamedTo numbers 0 named
 named-first numbers named e = record { all = e; own = λ m h. absurd (omega arith) }
 
-pub named-all : {numbers : List ℕ} {n : ℕ} {named : List Bool} → NamedTo numbers n named → (count : ℕ) → count ≤ n → NamedBy (codeIn numbers count) named
-named-all {numbers} s count h =
+pub named-all : {numbers : List ℕ} {n : ℕ} {named : List Bool} → NamedTo numbers n named → countIn numbers ≤ n → NamedBy (codeAs numbers) named
+named-all {numbers} s h =
+    let count = countIn numbers in
     record {
       all = s .all;
-      own = λ k m. let l : m .0 < count = omega (arith, m .1, code-length numbers count) in s .own (m .0) (omega arith) k (sym (code-at numbers count (m .0) l) ∙ m .2);
+      own = λ k m. let l : m .0 < count = omega (arith, m .1, code-length numbers count) in
+          s .own (m .0) (omega arith) k (sym (code-at numbers count (m .0) l) ∙ m .2);
     }
 
 -- One flag, and one byte more
@@ -168,7 +171,8 @@ other-here named byte k h n e = (k, eq-eqb (byte / 2 ^ k % 2) 1 h, not-true (get
 pub passed-first : (named passed : List Bool) → length passed ≡ frameBytes → Passed named passed 0
 passed-first named passed e = record { all = e; own = λ byte h. absurd (omega arith) }
 
-pub passed-more : {named passed : List Bool} {n : ℕ} → Passed named passed n → n < frameBytes → (b : Bool) → Other named n b → Passed named (set passed n b) (n + 1)
+pub passed-more : {named passed : List Bool} {n : ℕ} → Passed named passed n → n < frameBytes → (b : Bool) → Other named n b
+    → Passed named (set passed n b) (n + 1)
 passed-more {named} {passed} {n} p h b o =
     record {
       all = length-set passed n b ∙ p .all;

@@ -1,5 +1,5 @@
--- What the search says is small: a clip that is shown is no longer than the greatest horizon + 1, the states that are counted are one at least and no more than the records, and a refusal's
--- place lies inside what an accepted rule may have.
+-- What the search says is small: a clip that is shown is no longer than the greatest horizon + 1, the states that are counted are one at least and no more than
+-- the records, and a refusal's place lies inside what an accepted rule may have.
 use mathlib.Core.Path.{_≡_, refl}
 use mathlib.Core.Bool.{Bool, true, false}
 use mathlib.Core.List.{List}
@@ -9,9 +9,8 @@ use native.Mathlib.Omega.{arith}
 use borrow.Author.Tests.{le-ltb}
 use lib.ListN.{length}
 use Rattle.ground.specs.Buffers.{AllBytes}
-use Rattle.ground.specs.Limits.{limits}
+use Rattle.ground.specs.Limits.{limits, mostHorizon, mostRuleBytes}
 use Rattle.ground.specs.Refusals.{placeOf}
-use Rattle.rules.specs.Accepted.{mostHorizon, mostRuleBytes}
 use Rattle.rules.specs.Formula.{Formula, horizon}
 use Rattle.rules.specs.Loading.{Items, Reading, accepted, refused, readRule}
 use Rattle.rules.specs.Meaning.{Holds}
@@ -38,13 +37,15 @@ unfolding roomOf
 room-small table = min-le-right _ _
 
 -- a right answer
-right-small : (f : Formula) (table : List ℕ) (a : Answer) → horizon f ≤ mostHorizon → Right (stepsOver (codeFor f)) (Holds f) (roomOf table) a → Small (foundOf a)
+right-small : (f : Formula) (table : List ℕ) (a : Answer) → horizon f ≤ mostHorizon → Right (stepsOver (codeFor f)) (Holds f) (roomOf table) a
+    → Small (foundOf a)
 right-small f table (met c n) near (first, counts, room) =
     (omega (arith, near, first-short f c first), fresh-counted _ _ n counts, omega (arith, room, room-small table))
 right-small f table (none n) near (never, counts, room) = (fresh-counted _ _ n counts, omega (arith, room, room-small table))
 right-small f table noRoom near more = omega arith
 
-pub said-small : (rule table witness : List ℕ) (r : Found) (table′ witness′ : List ℕ) → AllBytes rule → SearchSays (readRule rule) table witness r table′ witness′ → Small r
+pub said-small : (rule table witness : List ℕ) (r : Found) (table′ witness′ : List ℕ) → AllBytes rule
+    → SearchSays (readRule rule) table witness r table′ witness′ → Small r
 said-small rule table witness r table′ witness′ small says = go (readRule rule) refl says
   where
     accepts : (f : Formula) (short : Bool) → horizon f ≤ mostHorizon → RuleSays short f table witness r table′ witness′ → Small r
@@ -56,5 +57,6 @@ said-small rule table witness r table′ witness′ small says = go (readRule ru
     go (refused x) e s = rw (s .own-answer) (rule-place rule x small e)
 
 -- A witness buffer as long as the greatest horizon + 1 is long enough for every accepted rule
-pub witness-suffices : (rule witness : List ℕ) (is : Items) (f : Formula) → AllBytes rule → readRule rule ≡ accepted is f → mostHorizon + 1 ≤ length witness → shortWitness f witness ≡ false
+pub witness-suffices : (rule witness : List ℕ) (is : Items) (f : Formula) → AllBytes rule → readRule rule ≡ accepted is f → mostHorizon + 1 ≤ length witness
+    → shortWitness f witness ≡ false
 witness-suffices rule witness is f small read long = le-ltb (length witness) (horizon f + 1) (omega (arith, long, accepted-rule rule is f small read .near))

@@ -1,7 +1,8 @@
--- Writing the witness: from a state the links lead through the records of its clip, whose frame bytes come in frame order. `Walks` says what is written and where the walk stands.
+-- Writing the witness: from a state the links lead through the records of its clip, whose frame bytes come in frame order. `Walks` says what is written and
+-- where the walk stands.
 use mathlib.Core.Path.{_≡_, refl, sym, ap, subst, _∙_}
 use mathlib.Core.List.{List, [], _∷_, _++_, append-assoc, append-nil}
-use Prim.Native.Nat.{ℕ, suc, _+_, _*_, _-_, _≤_, _<_}
+use Prim.Native.Nat.{ℕ, suc, _+_, _-_, _≤_, _<_}
 use native.Mathlib.Numerals.{add-one}
 use native.Mathlib.Omega.{arith}
 use lib.ListN.{length, set, length-append, length-set}
@@ -11,7 +12,7 @@ use Rattle.ground.specs.Frames.{Clip}
 use Rattle.ground.specs.Limits.{limits}
 use Rattle.ground.specs.declared.refusal.Refusal.{Refusal}
 use Rattle.ground.proofs.Buffers.{over-more}
-use Rattle.table.specs.Inner.Records.{linkIn, frameIn, recordAt}
+use Rattle.table.specs.Inner.Records.{linkIn, frameIn, recordAt, roomIn}
 use Rattle.finder.specs.Inner.Search.{CanShow, Showing, CanTell, Tells}
 use Rattle.finder.specs.Inner.Explore.{Shows}
 use Rattle.finder.specs.declared.explore.Explored.{Explored}
@@ -40,7 +41,7 @@ pub record Walks (table : List ℕ) (state frame : ℕ) (before after : List ℕ
   pub many : length done ≡ n
   pub leads : Shows table at rest
   pub own-link : link ≡ linkIn (recordAt table at)
-  pub inside : (at + 1) * limits .record_bytes ≤ length table
+  pub inside : at < roomIn table
   pub most : n + at ≤ limits .records
   pub written : after ≡ over done before
   pub same : length after ≡ length before
@@ -60,7 +61,7 @@ walks-first table state frame witness s link e =
       leads = s .shows;
       own-link = e;
       inside = s .inside;
-      most = omega (arith, s .most);
+      most = omega (arith, s .inside, s .holds .most);
       written = stands witness (omega (arith, s .room));
       same = refl;
     }
@@ -100,15 +101,17 @@ module _ (table : List ℕ) (state frame : ℕ) (before : List ℕ) where
               }
 
       pub walks-room : n < length after
-      walks-room = let l = length-append (w .done) (w .rest) in let e = ap length (w .parts) in let o = ap length (next .own) in omega (arith, w .many, w .room, w .same)
+      walks-room = let l = length-append (w .done) (w .rest) in let e = ap length (w .parts) in let o = ap length (next .own) in
+          omega (arith, w .many, w .room, w .same)
 
       pub walks-less : link - 1 < at
       walks-less = next .less
 
-      pub walks-inside : (link - 1 + 1) * limits .record_bytes ≤ length table
+      pub walks-inside : link - 1 < roomIn table
       walks-inside = omega (arith, next .less, w .inside)
 
-      pub walks-more : (x : ℕ) → x ≡ frameIn (recordAt table at) → (link′ : ℕ) → link′ ≡ linkIn (recordAt table (link - 1)) → Walks table state frame before (set after n x) (n + 1) (link - 1) link′
+      pub walks-more : (x : ℕ) → x ≡ frameIn (recordAt table at) → (link′ : ℕ) → link′ ≡ linkIn (recordAt table (link - 1))
+          → Walks table state frame before (set after n x) (n + 1) (link - 1) link′
       walks-more x own link′ e =
           let head : x ≡ next .head = own ∙ next .own-frame in
           record {
@@ -132,8 +135,10 @@ module _ (table : List ℕ) (state frame : ℕ) (before : List ℕ) where
     unfolding Shows
     walks-all end witness start clip shows =
         let one : w .clip ≡ clip = shows-one table state (w .clip) clip (w .shows) shows in
-        let whole : w .done ≡ frame ∷ clip = sym (append-nil (w .done)) ∙ ap (w .done ++_) (sym (none (w .rest) (w .leads))) ∙ w .parts ∙ ap (frame ∷_) one in
-        (sym (w .many) ∙ ap length whole ∙ sym (add-one (length clip)), w .written ∙ rw (whole, start, drop-set-lt (suc (length clip)) witness 0 frame (omega arith)))
+        let whole : w .done ≡ frame ∷ clip = sym (append-nil (w .done)) ∙ ap (w .done ++_) (sym (none (w .rest) (w .leads))) ∙ w .parts ∙ ap (frame ∷_) one in (
+          sym (w .many) ∙ ap length whole ∙ sym (add-one (length clip)),
+          w .written ∙ rw (whole, start, drop-set-lt (suc (length clip)) witness 0 frame (omega arith)),
+        )
       where
         none : (rest : Clip) → Shows table at rest → rest ≡ []
         none [] h = refl
@@ -144,7 +149,8 @@ module _ (table witness : List ℕ) (end : Explored) where
   pub tell-can : CanTell end table witness → (k b m : ℕ) → end ≡ Explored.Met k b m → CanShow table k witness
   tell-can can k b m e = subst (λ x. CanTell x table witness) e can
 
-  pub tells-met : (k b m : ℕ) → end ≡ Explored.Met k b m → (n : ℕ) (witness′ : List ℕ) → Showing table k b witness witness′ n → Tells end table witness (Found.Met n m) witness′
+  pub tells-met : (k b m : ℕ) → end ≡ Explored.Met k b m → (n : ℕ) (witness′ : List ℕ) → Showing table k b witness witness′ n
+      → Tells end table witness (Found.Met n m) witness′
   tells-met k b m e n witness′ showing =
       rw e (λ clip shows. (ap (λ l. Found.Met l m) (showing clip shows .0), showing clip shows .1))
 

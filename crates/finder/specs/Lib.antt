@@ -1,5 +1,4 @@
 -- What the contracts of `finder` cite.
 pub mod Search
 pub mod Demand
-pub mod Samples
 pub mod Inner

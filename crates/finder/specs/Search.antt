@@ -1,7 +1,10 @@
--- What the search answers, and what it leaves in the two lent buffers. Document 01: "room is the table's length divided by 80, rounded down, at most 65,536", "Search: rule, 14, 15",
--- "14 witness buffer shorter than horizon + 1", "The witness goes into the first bytes of its buffer in frame order, the rest unchanged. An answer gives met or not, the length (0 if
--- not) and the number of states counted as in demand 2. The table is all zero after every answer and after refusal 15. "None exists" leaves the witness buffer unchanged." A state is "the
--- value of all registers of the emitted code", and a clip reaches the one "that its frames, last to first, lead to from fresh registers": `stepsOver (codeFor f)`.
+-- What the search answers, and what it leaves in the two lent buffers. Document 01: "room is the table's length divided
+-- by 80, rounded down, at most 65,536", "Search: rule, 14, 15", "14 witness buffer shorter than horizon + 1", "The
+-- witness goes into the first bytes of its buffer in frame order, the rest unchanged. An answer gives met or not, the
+-- length (0 if not) and the number of states counted as in demand 2. The table is all zero after every answer and after
+-- refusal 15. "None exists" leaves the witness buffer unchanged." A state is "the value of all registers of the emitted
+-- code", and a clip reaches the one "that its frames, last to first, lead to from fresh registers": `stepsOver (codeFor
+-- f)`.
 use mathlib.Core.Path.{_≡_}
 use mathlib.Core.Bool.{Bool, true, false}
 use mathlib.Core.List.{List}
@@ -52,7 +55,8 @@ witnessAfter (none n) witness = witness
 witnessAfter noRoom witness = witness
 
 -- A right answer, by the states of some code and the clips that satisfy, is given; the table is all zero
-pub record Answers (code : Code) (Meets : Clip → Type 0) (table witness : List ℕ) (r : Found) (table′ witness′ : List ℕ) : Type 0 where
+pub record Answers (code : Code) (Meets : Clip → Type 0) (table witness : List ℕ) (r : Found)
+    (table′ witness′ : List ℕ) : Type 0 where
   pub answer : Answer
   pub right : Right (stepsOver code) Meets (roomOf table) answer
   pub own-answer : r ≡ foundOf answer
@@ -76,5 +80,6 @@ RuleSays false f table witness r table′ witness′ = Answers (codeFor f) (Hold
 
 -- What the search says: the rule's refusal, or what it says of the rule
 abbrev pub SearchSays : Reading → List ℕ → List ℕ → Found → List ℕ → List ℕ → Type 0
-SearchSays (accepted is f) table witness r table′ witness′ = RuleSays (shortWitness f witness) f table witness r table′ witness′
+SearchSays (accepted is f) table witness r table′ witness′ =
+    RuleSays (shortWitness f witness) f table witness r table′ witness′
 SearchSays (refused refusal) table witness r table′ witness′ = Refuses refusal table witness r table′ witness′

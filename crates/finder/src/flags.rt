@@ -1,26 +1,30 @@
-// The bytes that matter: a byte with a flag that the code does not name leads where the smaller byte without that flag leads.
+// The bytes that matter: a byte with a flag that the code does not name leads where the smaller byte without that flag
+// leads.
 ghost use mathlib.Core.Path.{_≡_};
 ghost use lib.ListN.{length};
 ghost use Rattle.paths.specs.Inner.Searching.{frameBytes};
-ghost use Rattle.code.specs.Programs.{Sound, codeIn};
+ghost use Rattle.code.specs.Programs.{Sound, codeAs};
 ghost use Rattle.finder.specs.Inner.Flags.{flags, NamedBy, Other, Passed};
+use code::load::PER_INSTRUCTION;
 use ground::limits::MOST_FLAG;
 
-// How many flags a frame has, and how many bytes there are.
+// How many flags a frame has, and how many bytes there are: each has or lacks each flag.
 const FLAGS: usize = MOST_FLAG as usize + 1;
 
-const BYTES: usize = 256;
+const BYTES: usize = 1 << FLAGS;
 
 // The flags that code names, an entry for each flag.
-pub(crate) fn named_flags(numbers: &[u16], count: usize) -> [bool; FLAGS]
-    requires { ⌜ Sound (now numbers) count ⌝ }
-    ensures { λ r. ⌜ NamedBy (codeIn (now (numbers .entry)) count) r ⌝ }
+pub(crate) fn named_flags(numbers: &[u16]) -> [bool; FLAGS]
+    requires { ⌜ Sound (now numbers) ⌝ }
+    ensures { λ r. ⌜ NamedBy (codeAs (now (numbers .entry))) r ⌝ }
 {
+    let count = numbers.len() / PER_INSTRUCTION;
     let mut named = [false; FLAGS];
     let mut n = 0;
     while n < count {
-        if numbers[4 * n] == 0x02 {
-            named[numbers[4 * n + 1] as usize] = true;
+        let base = PER_INSTRUCTION * n;
+        if numbers[base] == 0x02 {
+            named[numbers[base + 1] as usize] = true;
         }
         n += 1;
     }

@@ -1,28 +1,23 @@
 // The search: a rule's bytes, a table and a witness buffer in, an answer out.
-ghost use mathlib.Core.List.{List};
-ghost use Prim.Native.Nat.{ℕ};
 ghost use Rattle.rules.specs.Loading.{readRule};
-ghost use Rattle.code.specs.Programs.{codeIn};
-ghost use Rattle.finder.specs.Inner.Explore.{Outputs};
-ghost use Rattle.finder.specs.Search.{Answers, SearchSays};
-ghost use Rattle.finder.specs.Inner.Search.{CanShow, Showing, CanTell, Tells, CanSearch, Searchable, RuleAnswers};
+ghost use Rattle.code.specs.Programs.{codeAs};
+ghost use Rattle.finder.specs.Inner.Explore.{CanExplore};
+ghost use Rattle.finder.specs.Search.{SearchSays};
+ghost use Rattle.finder.specs.Inner.Search.{CanShow, Showing, CanTell, Tells, CanSearch, SearchedIn, AnswersBy};
 use crate::explore::Explored;
 use crate::explore::explore;
-use emitter::emit::Emitted;
-use emitter::emit::MOST_CODE;
-use emitter::emit::emit_rule;
+use code::load::PER_INSTRUCTION;
+use emitter::prepare::prepare;
+use ground::limits::RECORD;
 use ground::refusal::Refusal;
 use rules::load::Loaded;
-use rules::load::Rule;
-use rules::load::decode;
 use table::clear;
-use table::record::LINK;
-use table::record::frame_of;
-use table::record::link_at;
-use table::record_at;
+use table::frame_at;
+use table::link_at;
 use table::room_of;
 
-// What the search answers: a clip's length and the number of states, that there is none and the number of states, or the refusal.
+// What the search answers: a clip's length and the number of states, that there is none and the number of states, or
+// the refusal.
 pub enum Found {
     Met { length: usize, states: usize },
     None { states: usize },
@@ -37,17 +32,18 @@ fn write_witness(table: &[u8], state: usize, frame: u8, witness: &mut [u8]) -> u
     witness[0] = frame;
     let mut length = 1;
     let mut at = state;
-    let mut link = link_at(record_at(table, at), LINK);
+    let mut link = link_at(table, at);
     while link != 0 {
-        witness[length] = frame_of(record_at(table, at));
+        witness[length] = frame_at(table, at);
         length += 1;
         at = link - 1;
-        link = link_at(record_at(table, at), LINK);
+        link = link_at(table, at);
     }
     length
 }
 
-// Tells what exploring ends with: the clip that a state shows, with a frame byte in front, goes into the witness buffer.
+// Tells what exploring ends with: the clip that a state shows, with a frame byte in front, goes into the witness
+// buffer.
 fn tell(end: Explored, table: &[u8], witness: &mut [u8]) -> Found
     requires { ⌜ CanTell end (now table) (now witness) ⌝ }
     ensures { λ r. ⌜ Tells end (now (table .entry)) (now (witness .entry)) r (now (witness .exit)) ⌝ }
@@ -66,55 +62,50 @@ fn tell(end: Explored, table: &[u8], witness: &mut [u8]) -> Found
     }
 }
 
-// Searches by code that is loaded, in a table that is made all zero first, which is an empty index, and is all zero again at the end.
-fn search_code(numbers: &[u16], count: usize, table: &mut [u8], witness: &mut [u8]) -> Found
-    requires { ⌜ CanSearch (now numbers) count (now witness) ⌝ }
-    ensures { λ r. ⌜ Answers (codeIn (now (numbers .entry)) count) (Outputs (codeIn (now (numbers .entry)) count)) (now (table .entry)) (now (witness .entry)) r (now (table .exit)) (now (witness .exit)) ⌝ }
+// Searches by code that is loaded, in a table that is exactly its records and whose index is empty.
+fn search_in(numbers: &[u16], table: &mut [u8], witness: &mut [u8]) -> Found
+    requires { ⌜ CanExplore (now numbers) (now table) × CanSearch (now numbers) (now witness) ⌝ }
+    ensures { λ r.
+        ⌜ SearchedIn (codeAs (now (numbers .entry))) (now (table .entry)) (now (witness .entry)) r
+        (now (witness .exit)) ⌝ }
 {
-    let room = room_of(&table[..]);
+    let end = explore(numbers, &mut *table);
+    tell(end, &table[..], witness)
+}
+
+// Searches by code that is loaded, in the records of a table that is made all zero first, which is an empty index, and
+// is all zero again at the end.
+fn search_code(numbers: &[u16], table: &mut [u8], witness: &mut [u8]) -> Found
+    requires { ⌜ CanSearch (now numbers) (now witness) ⌝ }
+    ensures { λ r.
+        ⌜ AnswersBy (now (numbers .entry)) (now (table .entry)) (now (witness .entry)) r (now (table .exit))
+        (now (witness .exit)) ⌝ }
+{
+    let size = room_of(&table[..]) * RECORD;
     clear(&mut *table);
-    let end = explore(numbers, count, &mut *table, room);
-    let found = tell(end, &table[..], witness);
+    let found = search_in(numbers, &mut table[0..size], witness);
     clear(table);
     found
 }
 
-// Searches by the emitted code of a rule that is accepted, with a witness buffer that is long enough. Neither refusal inside comes: the array holds
-// the code of every accepted rule, and that code loads.
-fn search_rule(rule: Rule, table: &mut [u8], witness: &mut [u8]) -> Found
-    requires { ⌜ ((bytes : List ℕ) × Searchable bytes rule (now witness)) ⌝ }
-    ensures { λ r. ⌜ ((bytes : List ℕ) → Searchable bytes rule (now (witness .entry)) → RuleAnswers bytes (now (table .entry)) (now (witness .entry)) r (now (table .exit)) (now (witness .exit))) ⌝ }
-{
-    let mut code = [0; MOST_CODE];
-    match emit_rule(rule, &mut code) {
-        Emitted::Length(length) => {
-            let program = code::load::decode(&code[..length]);
-            let loaded = program.loaded;
-            match loaded {
-                code::load::LoadedCode::Accepted(count) => {
-                    let numbers = program.numbers;
-                    search_code(&numbers, count, table, witness)
-                }
-                code::load::LoadedCode::Refused(refusal) => Found::Refused(refusal),
-            }
-        }
-        Emitted::Refused(refusal) => Found::Refused(refusal),
-    }
-}
-
-// Searches for a clip that satisfies a rule: shows the first one, in the witness buffer from its first byte on, or says that there is none. The table
-// is all zero then, and after refusal 15; a refusal of the rule, then 14, changes nothing.
+// Searches for a clip that satisfies a rule: shows the first one, in the witness buffer from its first byte on, or says
+// that there is none. The table is all zero then, and after refusal 15; a refusal of the rule, then 14, changes
+// nothing.
 pub fn search(rule: &[u8], table: &mut [u8], witness: &mut [u8]) -> Found
-    ensures { λ r. ⌜ SearchSays (readRule (now (rule .entry))) (now (table .entry)) (now (witness .entry)) r (now (table .exit)) (now (witness .exit)) ⌝ }
+    ensures { λ r.
+        ⌜ SearchSays (readRule (now (rule .entry))) (now (table .entry)) (now (witness .entry)) r (now (table .exit))
+        (now (witness .exit)) ⌝ }
 {
-    let read = decode(rule);
-    let loaded = read.loaded;
+    let prepared = prepare(rule);
+    let loaded = prepared.loaded;
     match loaded {
         Loaded::Accepted { items: _, horizon } => {
             if witness.len() < horizon + 1 {
                 return Found::Refused(Refusal::ShortWitness);
             }
-            search_rule(read, table, witness)
+            let numbers = prepared.numbers;
+            let length = PER_INSTRUCTION * prepared.count;
+            search_code(&numbers[0..length], table, witness)
         }
         Loaded::Refused(refusal) => Found::Refused(refusal),
     }

@@ -1,5 +1,5 @@
--- Counting distinct states: of two lists of clips, the states of the one all among those of the other and no two alike, the first is no longer. Each state of the first takes one
--- out of the second.
+-- Counting distinct states: of two lists of clips, the states of the one all among those of the other and no two alike, the first is no longer. Each state of
+-- the first takes one out of the second.
 use mathlib.Core.Path.{_≡_, refl}
 use mathlib.Core.List.{List, [], _∷_}
 use Prim.Native.Nat.{ℕ, zero, suc, _≤_, _<_}
@@ -21,7 +21,8 @@ without-length (x ∷ xs) zero h = refl
 without-length (x ∷ xs) (suc j) h = omega (arith, without-length xs j (omega arith))
 
 -- The element at any other place is still there
-stays : {A : Type 0} (d : A) (xs : List A) (j k : ℕ) → k < length xs → (j ≡ k → ⊥) → (i : ℕ) × (i < length (without xs j)) × (getD (without xs j) i d ≡ getD xs k d)
+stays : {A : Type 0} (d : A) (xs : List A) (j k : ℕ) → k < length xs → (j ≡ k → ⊥) → (i : ℕ) × (i < length (without xs j))
+    × (getD (without xs j) i d ≡ getD xs k d)
 stays d [] j k h other = absurd (omega arith)
 stays d (x ∷ xs) zero zero h other = absurd (other refl)
 stays d (x ∷ xs) zero (suc k) h other = (k, omega arith, refl)

@@ -1,5 +1,5 @@
--- The ends of the search: each answer that it gives is right. Every clip of a length that is done with leads to a stored state, with a clip that comes no later,
--- by induction on the clip; so a clip that satisfies would have been met with the stored one in its place.
+-- The ends of the search: each answer that it gives is right. Every clip of a length that is done with leads to a stored state, with a clip that comes no
+-- later, by induction on the clip; so a clip that satisfies would have been met with the stored one in its place.
 use mathlib.Core.Path.{_≡_, refl, sym, ap, _∙_}
 use mathlib.Core.Bool.{Bool, true, false, false≢true}
 use mathlib.Core.List.{List, [], _∷_, _++_}
@@ -50,7 +50,8 @@ module _ {S : Type 0} (state : Clip → S) (Meets : Clip → Type 0) (room : ℕ
         distinct = record { short = (empty-short Meets, tt); different = λ i j l m. absurd (omega arith) };
       }
 
-  module _ (steps : Stepwise state Meets) (clips : List Clip) (frames k b ended : ℕ) (full : Bool) (s : Searching state Meets room clips frames k b ended full) where
+  module _ (steps : Stepwise state Meets) (clips : List Clip) (frames k b ended : ℕ) (full : Bool)
+      (s : Searching state Meets room clips frames k b ended full) where
     -- If one frame more in front of each stored clip shorter than `far` leads to a stored state, so do all clips that are no longer
     covered : (far : ℕ) → ((i x : ℕ) → i < length clips → length (clipAt clips i) < far → x < frameBytes → Stored state clips (x ∷ clipAt clips i))
         → (c : Clip) → AllBytes c → length c ≤ far → Stored state clips c
@@ -134,7 +135,8 @@ module _ {S : Type 0} (state : Clip → S) (Meets : Clip → Type 0) (room : ℕ
     pub ends-met : k < ended → b < frameBytes → Meets (b ∷ clipAt clips k) → Right state Meets room (met (b ∷ clipAt clips k) ended)
     ends-met more byte hit =
         let own : Satisfying Meets (b ∷ clipAt clips k) = record { bytes = trial-bytes s more byte; some = omega arith; meets = hit } in
-        let long = longer frames (λ c bytes l. let (r, _) = stored c bytes (omega arith) in (r, past (r .number) (r .inside) (omega (arith, stored-length r)))) in (
+        let long = longer frames (λ c bytes l. let (r, _) = stored c bytes (omega arith) in (r, past (r .number) (r .inside) (omega (arith, stored-length r))))
+        in (
           record { satisfying = own; first = first more },
           counted (λ i h d t. omega (arith, long d t, s .older i h))
               (λ c h. stored c (h .bytes) (omega (arith, h .shorter (b ∷ clipAt clips k) own, trial-length s more))),
@@ -145,7 +147,8 @@ module _ {S : Type 0} (state : Clip → S) (Meets : Clip → Type 0) (room : ℕ
     pub ends-none : k ≡ ended → full ≡ false → ended ≡ length clips → Right state Meets room (none ended)
     ends-none done e no-more =
         let all : (c : Clip) → AllBytes c → (r : Stored state clips c) × (r .number < k) =
-        λ c bytes. let r = covered (length c) (λ i x h l byte. goes-on i x (omega arith) byte (λ f. false≢true (sym e ∙ f .0))) c bytes (omega arith) in (r, omega arith) in
+        λ c bytes. let r = covered (length c) (λ i x h l byte. goes-on i x (omega arith) byte (λ f. false≢true (sym e ∙ f .0))) c bytes (omega arith) in
+        (r, omega arith) in
         let never : (c : Clip) → Satisfying Meets c → ⊥ = λ c t. omega (arith, longer (length c) (λ d bytes l. all d bytes) c t) in
         (never, counted (λ i h d t. absurd (never d t)) (λ c h. rw (← done) (all c (h .bytes))), omega arith)
 
@@ -159,7 +162,8 @@ module _ {S : Type 0} (state : Clip → S) (Meets : Clip → Type 0) (room : ℕ
           more = omega (arith, length-more clips (spare .clip));
           distinct = record {
             short = each-of (Short Meets) (clips ++ spare .clip ∷ []) []
-                (at-more clips (spare .clip) (λ i. Short Meets) (λ i l. record { bytes = s .bytes i l; shorter = λ d t. omega (arith, long d t, longest s i l) })
+                (at-more clips (spare .clip) (λ i. Short Meets) (λ i l.
+                record { bytes = s .bytes i l; shorter = λ d t. omega (arith, long d t, longest s i l) })
                 (record { bytes = spare .bytes; shorter = λ d t. omega (arith, long d t) }));
             different = pairs-more clips (spare .clip) (λ u v. state u ≡ state v → ⊥) (s .different) (spare .new);
           };

@@ -61,12 +61,14 @@ module _ {S : Type 0} (m : Machine S) where
 
       module _ (more : p .k < p .ended) (byte : p .b < frameBytes) where
         -- the model stands before the next byte, if the search does
-        next : (clips : List Clip) (states : List S) (full : Bool) → Searching (after m) (MachineHits m) room clips (s .frames) (p .k) (p .b + 1) (p .ended) full
+        next : (clips : List Clip) (states : List S) (full : Bool)
+            → Searching (after m) (MachineHits m) room clips (s .frames) (p .k) (p .b + 1) (p .ended) full
             → states ≡ map (after m) clips → Modelled room (nextByte p clips states full)
         next clips states full h e = record { frames = s .frames; search = h; reached = e; within = omega arith }
 
         module _ (missed : MachineHits m (trial p) → ⊥) where
-          new-sound : Known false (after m (trial p)) (p .clips) → (t : Bool) → ltb (length (p .clips)) room ≡ t → Modelled room (newState t p (after m (trial p)))
+          new-sound : Known false (after m (trial p)) (p .clips) → (t : Bool) → ltb (length (p .clips)) room ≡ t
+              → Modelled room (newState t p (after m (trial p)))
           new-sound new true e =
               next (p .clips ++ trial p ∷ []) (p .states ++ after m (trial p) ∷ []) (p .full)
               (new-turn _ _ _ _ _ _ _ _ _ (s .search) more byte missed new (ltb-true (length (p .clips)) room e)) (rw (map-append, s .reached))

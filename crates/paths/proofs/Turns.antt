@@ -98,7 +98,8 @@ module _ {S : Type 0} (state : Clip → S) (Meets : Clip → Type 0) (room : ℕ
           }
 
       -- The trial leads to a state that is stored
-      pub known-turn : (j : ℕ) → j < length clips → state (clipAt clips j) ≡ state (b ∷ clipAt clips k) → Searching state Meets room clips frames k (b + 1) ended full
+      pub known-turn : (j : ℕ) → j < length clips → state (clipAt clips j) ≡ state (b ∷ clipAt clips k)
+          → Searching state Meets room clips frames k (b + 1) ended full
       known-turn j inside same =
           same-clips full (λ e. e) (inl (record { number = j; inside = inside; same = same; early = inr (s .behind more j inside) })) (s .spare)
 
@@ -143,12 +144,14 @@ module _ {S : Type 0} (state : Clip → S) (Meets : Clip → Type 0) (room : ℕ
             same-clips true (λ e. refl) (inr refl) (λ e. (omega arith, spare))
 
     -- The trial leads where one with a smaller byte led, and satisfies no more than that
-    pub passed-turn : k < ended → b < frameBytes → (x : ℕ) → x < b → state (x ∷ clipAt clips k) ≡ state (b ∷ clipAt clips k) → (Meets (b ∷ clipAt clips k) → Meets (x ∷ clipAt clips k))
+    pub passed-turn : k < ended → b < frameBytes → (x : ℕ) → x < b → state (x ∷ clipAt clips k) ≡ state (b ∷ clipAt clips k)
+        → (Meets (b ∷ clipAt clips k) → Meets (x ∷ clipAt clips k))
         → Searching state Meets room clips frames k (b + 1) ended full
     passed-turn more byte x less same meets =
         let before : Tried k b k x = (omega arith, inr (refl, less)) in
         same-clips more byte (λ m. s .quiet k x before (meets m)) full (λ e. e)
-        (⊎-map (λ r. record { number = r .number; inside = r .inside; same = r .same ∙ same; early = inr (s .behind more (r .number) (r .inside)) }) (λ e. e .0) (s .kept k x before))
+        (⊎-map (λ r. record { number = r .number; inside = r .inside; same = r .same ∙ same; early = inr (s .behind more (r .number) (r .inside)) }) (λ e. e .0)
+        (s .kept k x before))
         (s .spare)
 
     -- All bytes are tried with a state

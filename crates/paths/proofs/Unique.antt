@@ -1,5 +1,5 @@
--- Any two right answers are equal: a first clip is one, a count is one, and no two kinds of answer are right together. And what is right does not turn on how the states and the
--- meaning are named.
+-- Any two right answers are equal: a first clip is one, a count is one, and no two kinds of answer are right together. And what is right does not turn on how
+-- the states and the meaning are named.
 use mathlib.Core.Path.{_≡_, refl, fun-ext}
 use mathlib.Core.List.{List, [], _∷_}
 use mathlib.Core.Logic.{_⊎_, inl, inr, _↔_}
@@ -31,7 +31,8 @@ one-answer state Meets room noRoom (met d m) h k = absurd (not-within state Meet
 one-answer state Meets room noRoom (none m) h k = absurd (not-within state Meets m room (k .1) (k .2) h)
 one-answer state Meets room noRoom noRoom h k = refl
 
--- One meaning gives another on clips of one or more frames: what satisfies the one satisfies the other, and what is shorter than all that satisfies the other is so for the one
+-- One meaning gives another on clips of one or more frames: what satisfies the one satisfies the other, and what is shorter than all that satisfies the other
+-- is so for the one
 module _ (Meets Meets′ : Clip → Type 0) (then : (x : ℕ) (c : Clip) → Meets (x ∷ c) → Meets′ (x ∷ c)) where
   satisfying-then : (c : Clip) → Satisfying Meets c → Satisfying Meets′ c
   satisfying-then [] h = absurd (omega (arith, h .some))
@@ -50,7 +51,8 @@ module _ (Meets Meets′ : Clip → Type 0) (alike : (x : ℕ) (c : Clip) → Me
 
 module _ {S : Type 0} (state : Clip → S) (Meets Meets′ : Clip → Type 0) (alike : (x : ℕ) (c : Clip) → Meets (x ∷ c) ↔ Meets′ (x ∷ c)) where
   distinct-alike : (clips : List Clip) → Distinct state Meets clips → Distinct state Meets′ clips
-  distinct-alike clips h = record { short = each-then (Short Meets) (Short Meets′) (short-then Meets′ Meets (λ x c. alike x c .1)) clips (h .short); different = h .different }
+  distinct-alike clips h =
+      record { short = each-then (Short Meets) (Short Meets′) (short-then Meets′ Meets (λ x c. alike x c .1)) clips (h .short); different = h .different }
 
   counts-alike : (n : ℕ) → Counts state Meets n → Counts state Meets′ n
   counts-alike n h =

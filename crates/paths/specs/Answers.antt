@@ -1,7 +1,9 @@
--- What an answer of the search says, for any meaning and any states: `Meets` are the clips that satisfy, `state` is what a clip reaches. It is stated, not computed. The second
--- demand: "the search shows a satisfying clip, the shortest, and of those the first when frames are compared from the last backwards; or says that none exists, exactly if no
--- clip of one or more frames satisfies the rule; before both comes "no room", exactly if the distinct register states, the fresh one included, reached by clips shorter than the
--- shortest satisfying one (by all clips, if there is none) outnumber the table's records."
+-- What an answer of the search says, for any meaning and any states: `Meets` are the clips that satisfy, `state` is
+-- what a clip reaches. It is stated, not computed. The second demand: "the search shows a satisfying clip, the
+-- shortest, and of those the first when frames are compared from the last backwards; or says that none exists, exactly
+-- if no clip of one or more frames satisfies the rule; before both comes "no room", exactly if the distinct register
+-- states, the fresh one included, reached by clips shorter than the shortest satisfying one (by all clips, if there is
+-- none) outnumber the table's records."
 use mathlib.Core.Path.{_≡_}
 use mathlib.Core.List.{List, []}
 use Prim.Native.Nat.{ℕ, _≤_, _<_}
@@ -22,7 +24,8 @@ pub record First (Meets : Clip → Type 0) (c : Clip) : Type 0 where
   pub satisfying : Satisfying Meets c
   pub first : (d : Clip) → Satisfying Meets d → Less d c → ⊥
 
--- A clip shorter than every satisfying one: than the shortest, or any clip if there is none. The empty sequence counts as a clip here.
+-- A clip shorter than every satisfying one: than the shortest, or any clip if there is none. The empty sequence counts
+-- as a clip here.
 pub record Short (Meets : Clip → Type 0) (c : Clip) : Type 0 where
   pub bytes : AllBytes c
   pub shorter : (d : Clip) → Satisfying Meets d → length c < length d

@@ -53,7 +53,8 @@ module _ {bucket head link : ℕ → ℕ} {buckets stored : ℕ} (c : Chained bu
             }
 
   -- A new number goes in front of its bucket
-  module _ (bucket′ head′ link′ : ℕ → ℕ) (b : ℕ) (same-bucket : (m : ℕ) → m < stored → bucket′ m ≡ bucket m) (same-link : (m : ℕ) → m < stored → link′ m ≡ link m)
+  module _ (bucket′ head′ link′ : ℕ → ℕ) (b : ℕ) (same-bucket : (m : ℕ) → m < stored → bucket′ m ≡ bucket m)
+      (same-link : (m : ℕ) → m < stored → link′ m ≡ link m)
       (own-bucket : bucket′ stored ≡ b) (b-inside : b < buckets) (own-link : link′ stored ≡ head b) (own-head : head′ b ≡ stored + 1)
       (same-head : (x : ℕ) → x < buckets → (x ≡ b → ⊥) → head′ x ≡ head x) where
     -- what is last among the old ones is so by the new buckets
@@ -91,6 +92,7 @@ module _ {bucket head link : ℕ → ℕ} {buckets stored : ℕ} (c : Chained bu
         record {
           heads = λ x h. by-cases (ℕ-discrete x b) (λ e. rw (e, own-head) new-head) λ other. rw (same-head x h other) (old-head x h other);
           links = λ m h. by-cases (decLt m stored)
-              (λ low. subst (λ l. Last bucket′ (bucket′ m) m l) (sym (same-link m low)) (subst (λ x. Last bucket′ x m (link m)) (sym (same-bucket m low)) (still (omega arith) (c .links m low))))
+              (λ low. subst (λ l. Last bucket′ (bucket′ m) m l) (sym (same-link m low))
+              (subst (λ x. Last bucket′ x m (link m)) (sym (same-bucket m low)) (still (omega arith) (c .links m low))))
               λ high. let same : m ≡ stored = omega arith in rw (same, own-link, own-bucket) (still (omega arith) (c .heads b b-inside));
         }

@@ -3,3 +3,4 @@ pub mod Chains
 pub mod Records
 pub mod Words
 pub mod Tables
+pub mod Unique

@@ -1,21 +1,21 @@
--- Records of a table as parts of its bytes: the part that a function lends is the record, and a part that is put back leaves the other records as they were.
--- A look-up walks down the chain of the key's bucket (`Looking`); a store writes a record and then its bucket's head, so the record goes in front of its bucket.
+-- Records of a table as parts of its bytes: the part that a function lends is the record, and a part that is put back leaves the other records as they were. A
+-- look-up walks down the chain of the key's bucket (`Looking`); a store writes a record and then its bucket's head, so the record goes in front of its bucket.
 use mathlib.Core.Path.{_≡_, ap, sym, subst, _∙_}
 use mathlib.Core.Logic.{by-cases}
 use mathlib.Core.Bool.{true, false}
 use mathlib.Core.List.{List, _++_}
-use Prim.Native.Nat.{ℕ, _+_, _*_, _-_, _≤_, _<_}
+use Prim.Native.Nat.{ℕ, _+_, _*_, _-_, _/_, _≤_, _<_}
 use native.Mathlib.Decide.{decLt, ℕ-discrete}
 use native.Mathlib.Omega.{arith}
 use borrow.Rule.Slice.PartMut.{midOf, putMid, same-len-mid, mid-len, drop-put}
-use lib.ListN.{length, getD, take, drop, length-drop, take-append-drop}
-use lib.Seq.{length-take-le, take-append-le, drop-append-le, take-at, drop-at, drop-drop}
+use lib.ListN.{length, getD, take, drop, length-take, length-drop, take-append-drop, List·getD-eq-default}
+use lib.Seq.{getD-take, getD-drop, length-take-le, take-append-le, drop-append-le, take-at, drop-at, drop-drop}
 use Rattle.ground.specs.Limits.{limits}
 use Rattle.sequencer.specs.declared.registers.Registers.{Registers}
-use Rattle.table.proofs.Chains.{Down, walk-first, walk-less, walk-more, walk-all, chained-more}
-use Rattle.table.specs.Inner.Index.{bucketOf, bucketAt, headAt, chainAt, Indexed}
-use Rattle.table.specs.Inner.Records.{byteAt, Keeps, KeyOf, SameKey, linkAt, linkPlace, chainPlace, headPlace, LinkWritten, Has, Written, recordAt, framePlace}
-use Rattle.table.specs.Inner.Tables.{Filled, Looks, CanStore, Stores}
+use Rattle.table.proofs.Chains.{Down, chained-none, walk-first, walk-less, walk-more, walk-all, chained-more}
+use Rattle.table.specs.Inner.Index.{bucketOf, bucketAt, headAt, chainAt, Indexed, IndexedBy}
+use Rattle.table.specs.Inner.Records.{byteAt, Keeps, KeyOf, SameKey, linkAt, linkPlace, chainPlace, headPlace, LinkWritten, Has, Written, recordAt, roomIn, framePlace}
+use Rattle.table.specs.Inner.Tables.{HasRoom, Filled, Looks, CanStore, Stores}
 use Rattle.table.specs.declared.Look.{Look}
 use Rattle.table.proofs.Words.{bucket-same, key-same, key-other, key-bucket}
 
@@ -33,52 +33,79 @@ size-is n = omega arith
 pub part-record : (table : List ℕ) (n : ℕ) → midOf (startOf n) (sizeOf n) table ≡ recordAt table n
 part-record table n = rw (size-is n)
 
-pub record-length : (table : List ℕ) (n : ℕ) → (n + 1) * limits .record_bytes ≤ length table → length (recordAt table n) ≡ limits .record_bytes
+pub record-length : (table : List ℕ) (n : ℕ) → n < roomIn table → length (recordAt table n) ≡ limits .record_bytes
 record-length table n h = length-take-le (limits .record_bytes) (drop (startOf n) table) (omega (arith, length-drop (startOf n) table))
 
+-- a table that is as long is exactly its records too
+pub room-kept : (before after : List ℕ) → length after ≡ length before → HasRoom before → HasRoom after
+room-kept before after same holds = record { whole = omega (arith, holds .whole); most = omega (arith, holds .most) }
+
+-- In a table of zeros every byte of a record is 0, so its index is empty
+module _ (table : List ℕ) (zero : (j : ℕ) → getD table j 0 ≡ 0) where
+  zero-record : (n j : ℕ) → getD (recordAt table n) j 0 ≡ 0
+  zero-record n j =
+      by-cases (decLt j (limits .record_bytes)) (λ h. getD-take (limits .record_bytes) (drop (startOf n) table) j 0 h ∙ getD-drop (startOf n) table j 0
+      ∙ zero (startOf n + j)) λ h.
+      List·getD-eq-default (recordAt table n) 0 {n = j} (omega (arith, length-take (limits .record_bytes) (drop (startOf n) table)))
+
+  pub indexed-none : Indexed table 0
+  indexed-none =
+      chained-none _ _ _ (roomIn table)
+      (λ b h. omega (arith, zero-record b headPlace, zero-record b (headPlace + 1), zero-record b (headPlace + 2)))
+
 -- A look-up on its way down the chain of a key's bucket: at is the next record's number and one more, or 0; none that it has passed keeps the key's registers
-pub record Looking (room : ℕ) (table key : List ℕ) (bucket at : ℕ) : Type 0 where
-  pub own : bucket ≡ bucketOf room (byteAt key)
-  pub walk : (r : Registers) → KeyOf r key → (stored : ℕ) → Filled room table stored → Down (bucketAt room table) (λ n. Keeps (recordAt table n) r) bucket stored at
+pub record Looking (table key : List ℕ) (bucket at : ℕ) : Type 0 where
+  pub own : bucket ≡ bucketOf (roomIn table) (byteAt key)
+  pub walk : (r : Registers) → KeyOf r key → (stored : ℕ) → Filled table stored
+      → Down (bucketAt (roomIn table) table) (λ n. Keeps (recordAt table n) r) bucket stored at
 
-module _ (room : ℕ) (table key : List ℕ) (bucket : ℕ) where
+module _ (table key : List ℕ) (bucket : ℕ) where
   -- all records that keep the key's registers are in its bucket
-  in-bucket : bucket ≡ bucketOf room (byteAt key) → (r : Registers) → KeyOf r key → (n : ℕ) → Keeps (recordAt table n) r → bucketAt room table n ≡ bucket
-  in-bucket e r k n keeps = key-bucket r key k (recordAt table n) room keeps ∙ sym e
+  in-bucket : bucket ≡ bucketOf (roomIn table) (byteAt key) → (r : Registers) → KeyOf r key → (n : ℕ) → Keeps (recordAt table n) r
+      → bucketAt (roomIn table) table n ≡ bucket
+  in-bucket e r k n keeps = key-bucket r key k (recordAt table n) (roomIn table) keeps ∙ sym e
 
-  pub looking-first : (at : ℕ) → bucket ≡ bucketOf room (byteAt key) → bucket < room → at ≡ headAt table bucket → Looking room table key bucket at
+  pub looking-first : (at : ℕ) → bucket ≡ bucketOf (roomIn table) (byteAt key) → bucket < roomIn table → at ≡ headAt table bucket → Looking table key bucket at
   looking-first at e inside head =
       record {
         own = e;
-        walk = λ r k stored filled. subst (λ x. Down (bucketAt room table) (λ n. Keeps (recordAt table n) r) bucket stored x) (sym head)
+        walk = λ r k stored filled. subst (λ x. Down (bucketAt (roomIn table) table) (λ n. Keeps (recordAt table n) r) bucket stored x) (sym head)
             (walk-first (filled .indexed) (λ n. Keeps (recordAt table n) r) bucket (λ n h. in-bucket e r k n) inside);
       }
 
-  module _ {at : ℕ} (w : Looking room table key bucket at) where
-    pub looks-nowhere : at ≡ 0 → (r : Registers) → KeyOf r key → (stored : ℕ) → Filled room table stored → Looks table stored r Look.Nowhere
-    looks-nowhere end r k stored filled = walk-all (filled .indexed) (λ n. Keeps (recordAt table n) r) bucket (λ n h. in-bucket (w .own) r k n) (w .walk r k stored filled) end
+  module _ {at : ℕ} (w : Looking table key bucket at) where
+    pub looks-nowhere : at ≡ 0 → (r : Registers) → KeyOf r key → (stored : ℕ) → Filled table stored → Looks table stored r Look.Nowhere
+    looks-nowhere end r k stored filled =
+        walk-all (filled .indexed) (λ n. Keeps (recordAt table n) r) bucket (λ n h. in-bucket (w .own) r k n) (w .walk r k stored filled) end
 
     module _ (more : at ≡ 0 → ⊥) where
-      pub looks-at : SameKey (recordAt table (at - 1)) key true → (r : Registers) → KeyOf r key → (stored : ℕ) → Filled room table stored → Looks table stored r (Look.At (at - 1))
-      looks-at same r k stored filled = (omega (arith, w .walk r k stored filled .upto), key-same r key k (recordAt table (at - 1)) same)
+      pub looks-at : SameKey (recordAt table (at - 1)) key true → (r : Registers) → KeyOf r key → (stored : ℕ) → Filled table stored
+          → Looks table stored r (Look.At (at - 1))
+      looks-at same r k stored filled =
+          let down = w .walk r k stored filled in
+          (omega (arith, down .upto), key-same r key k (recordAt table (at - 1)) same, λ m above. down .missed m (omega arith))
 
-      pub looking-more : (next : ℕ) → SameKey (recordAt table (at - 1)) key false → next ≡ chainAt table (at - 1) → Looking room table key bucket next
+      pub looking-more : (next : ℕ) → SameKey (recordAt table (at - 1)) key false → next ≡ chainAt table (at - 1) → Looking table key bucket next
       looking-more next miss chain =
           record {
             own = w .own;
-            walk = λ r k stored filled. subst (λ x. Down (bucketAt room table) (λ n. Keeps (recordAt table n) r) bucket stored x) (sym chain)
+            walk = λ r k stored filled. subst (λ x. Down (bucketAt (roomIn table) table) (λ n. Keeps (recordAt table n) r) bucket stored x) (sym chain)
                 (walk-more (filled .indexed) (λ n. Keeps (recordAt table n) r) bucket (λ n h. in-bucket (w .own) r k n) (w .walk r k stored filled) more
                 (key-other r key k (recordAt table (at - 1)) miss));
           }
 
-      module _ (r : Registers) (k : KeyOf r key) (stored : ℕ) (filled : Filled room table stored) where
+      module _ (r : Registers) (k : KeyOf r key) (stored : ℕ) (filled : Filled table stored) where
         -- the next record lies inside the table
-        pub looking-inside : (at - 1 + 1) * limits .record_bytes ≤ length table
-        looking-inside = omega (arith, w .walk r k stored filled .upto, filled .inside, filled .holds .fits)
+        pub looking-inside : at - 1 < roomIn table
+        looking-inside = omega (arith, w .walk r k stored filled .upto, filled .inside)
 
         pub looking-less : (next : ℕ) → next ≡ chainAt table (at - 1) → next < at
         looking-less next chain =
-            omega (arith, walk-less (filled .indexed) (λ n. Keeps (recordAt table n) r) bucket (λ n h. in-bucket (w .own) r k n) (w .walk r k stored filled) more)
+            omega (
+              arith,
+              walk-less (filled .indexed) (λ n. Keeps (recordAt table n) r) bucket (λ n h. in-bucket (w .own) r k n)
+                  (w .walk r k stored filled) more,
+            )
 
 -- Bytes put in the place of a record, as lending writes it
 abbrev put : List ℕ → ℕ → List ℕ → List ℕ
@@ -93,7 +120,7 @@ module _ (p q : List ℕ) (n : ℕ) (seam : length p ≡ startOf n) where
   record-before m h = let a = startOf m in
       rw (drop-append-le a p q (omega arith)) (take-append-le (limits .record_bytes) (drop a p) q (omega (arith, length-drop a p)))
 
-module _ (xs ys : List ℕ) (n : ℕ) (inside : (n + 1) * limits .record_bytes ≤ length xs) (whole : length ys ≡ limits .record_bytes) where
+module _ (xs ys : List ℕ) (n : ℕ) (inside : n < roomIn xs) (whole : length ys ≡ limits .record_bytes) where
   seam : length (take (startOf n) xs) ≡ startOf n
   seam = length-take-le (startOf n) xs (omega arith)
 
@@ -126,12 +153,13 @@ pub link-same : (at : ℕ) (a c : List ℕ) → ((j : ℕ) → at ≤ j → j < 
 link-same at a c same = rw (same at (omega arith) (omega arith), same (at + 1) (omega arith) (omega arith), same (at + 2) (omega arith) (omega arith))
 
 -- What writing the head of a bucket leaves: of its record the bytes in front, and all other records
-module _ (xs ys : List ℕ) (b link : ℕ) (inside : (b + 1) * limits .record_bytes ≤ length xs) (w : LinkWritten headPlace link (recordAt xs b) ys) where
+module _ (xs ys : List ℕ) (b link : ℕ) (inside : b < roomIn xs) (w : LinkWritten headPlace link (recordAt xs b) ys) where
   head-whole : length ys ≡ limits .record_bytes
   head-whole = w .same ∙ record-length xs b inside
 
   head-below : (m j : ℕ) → j < headPlace → getD (recordAt (put xs b ys) m) j 0 ≡ getD (recordAt xs m) j 0
-  head-below m j h = by-cases (ℕ-discrete m b) (λ e. rw (e, put-own xs ys b inside head-whole) (w .below j h)) λ other. rw (put-other xs ys b inside head-whole m other)
+  head-below m j h = by-cases (ℕ-discrete m b) (λ e. rw (e, put-own xs ys b inside head-whole) (w .below j h)) λ other.
+      rw (put-other xs ys b inside head-whole m other)
 
   head-own : headAt (put xs b ys) b ≡ link
   head-own = rw (put-own xs ys b inside head-whole) (w .own)
@@ -140,17 +168,17 @@ module _ (xs ys : List ℕ) (b link : ℕ) (inside : (b + 1) * limits .record_by
   head-other m other = rw (put-other xs ys b inside head-whole m other)
 
 -- What a store leaves: ys are the record that is written, zs that of the bucket's head
-module _ (xs ys zs key : List ℕ) (room n b link frame chain : ℕ) (r : Registers) (can : CanStore room xs n link) (k : KeyOf r key)
-    (own : b ≡ bucketOf room (byteAt key)) (b-inside : b < room) (old-head : chain ≡ headAt xs b)
+module _ (xs ys zs key : List ℕ) (n b link frame chain : ℕ) (r : Registers) (can : CanStore xs n link) (k : KeyOf r key)
+    (own : b ≡ bucketOf (roomIn xs) (byteAt key)) (b-inside : b < roomIn xs) (old-head : chain ≡ headAt xs b)
     (w : Written r link frame chain (recordAt xs n) ys) (h : LinkWritten headPlace (n + 1) (recordAt (put xs n ys) b) zs) where
-  inside : (n + 1) * limits .record_bytes ≤ length xs
-  inside = omega (arith, can .holds .fits, can .inside)
+  inside : n < roomIn xs
+  inside = can .inside
 
   whole : length ys ≡ limits .record_bytes
   whole = w .same ∙ record-length xs n inside
 
-  head-inside : (b + 1) * limits .record_bytes ≤ length (put xs n ys)
-  head-inside = omega (arith, can .holds .fits, put-length xs ys n inside whole)
+  head-inside : b < roomIn (put xs n ys)
+  head-inside = rw (put-length xs ys n inside whole) b-inside
 
   abbrev end : List ℕ
   end = put (put xs n ys) b zs
@@ -177,22 +205,25 @@ module _ (xs ys zs key : List ℕ) (room n b link frame chain : ℕ) (r : Regist
         own-frame = new-below framePlace (omega arith) ∙ w .has .own-frame;
       }
 
-  more : Indexed room xs n → Indexed room end (n + 1)
+  same : length end ≡ length xs
+  same = put-length (put xs n ys) zs b head-inside (head-whole (put xs n ys) zs b (n + 1) head-inside h) ∙ put-length xs ys n inside whole
+
+  more : Indexed xs n → IndexedBy (roomIn xs) end (n + 1)
   more indexed =
-      chained-more indexed (bucketAt room end) (headAt end) (chainAt end) b
-      (λ m l. bucket-same room (recordAt end m) (recordAt xs m) (λ j i. old-below m l j (omega arith)))
+      chained-more indexed (bucketAt (roomIn xs) end) (headAt end) (chainAt end) b
+      (λ m l. bucket-same (roomIn xs) (recordAt end m) (recordAt xs m) (λ j i. old-below m l j (omega arith)))
       (λ m l. link-same chainPlace (recordAt end m) (recordAt xs m) (λ j i u. old-below m l j (omega arith)))
-      (key-bucket r key k (recordAt end n) room (has .keeps) ∙ sym own)
+      (key-bucket r key k (recordAt end n) (roomIn xs) (has .keeps) ∙ sym own)
       b-inside
       (link-same chainPlace (recordAt end n) ys (λ j l u. new-below j (omega arith)) ∙ w .own-chain ∙ old-head)
       (head-own (put xs n ys) zs b (n + 1) head-inside h)
       (λ x l other. head-other (put xs n ys) zs b (n + 1) head-inside h x other ∙ heads-same x)
 
-  pub stores : Stores room xs end n r link frame
+  pub stores : Stores xs end n r link frame
   stores =
       record {
         written = has;
         others = λ m l j i. old-below m l j (omega arith);
-        indexed = more;
-        same = put-length (put xs n ys) zs b head-inside (head-whole (put xs n ys) zs b (n + 1) head-inside h) ∙ put-length xs ys n inside whole;
+        indexed = λ indexed. subst (λ size. IndexedBy (size / limits .record_bytes) end (n + 1)) (sym same) (more indexed);
+        same = same;
       }

@@ -1,4 +1,5 @@
--- How many records a table has. Document 01: "A record takes 80 bytes; room is the table's length divided by 80, rounded down, at most 65,536."
+-- How many records a table has. Document 01: "A record takes 80 bytes; room is the table's length divided by 80,
+-- rounded down, at most 65,536."
 use mathlib.Core.List.{List}
 use Prim.Native.Nat.{ℕ, _/_, min}
 use lib.ListN.{length}

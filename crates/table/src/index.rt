@@ -1,24 +1,32 @@
-// The index: by its words, each key falls into a bucket, of which there are as many as records. The last record of bucket n is told by record n,
-// and each record tells the one before it in its own bucket.
+// The index: by its words, each key falls into a bucket, of which there are as many as records. The last record of
+// bucket n is told by record n, and each record tells the one before it in its own bucket.
 ghost use mathlib.Core.Path.{_≡_};
 ghost use Prim.Native.Nat.{_*_, _≤_, _<_};
 ghost use lib.ListN.{length};
 ghost use Rattle.ground.specs.Limits.{limits};
 ghost use Rattle.table.specs.Inner.Index.{halfWord, stirred, mixed, bucketOf};
 ghost use Rattle.table.specs.Inner.Records.{wordBytes, keyBytes, byteAt};
+use crate::record::BITS;
+use crate::record::WORD;
 use crate::record::WORDS;
 
-// How many values half a word has; and the two parts, 17 bits and 15, by which a hash is turned.
-const HALF: u64 = 4_294_967_296;
+// How many bits half a word has, and by how many of them a hash is turned.
+const HALF_BITS: usize = BITS * WORD / 2;
 
-const LOW: u64 = 131_072;
+const TURN_BITS: usize = 17;
 
-const HIGH: u64 = 32_768;
+// How many values half a word has, and the two parts of it by which a hash is turned.
+const HALF: u64 = 1 << HALF_BITS;
+
+const LOW: u64 = 1 << TURN_BITS;
+
+const HIGH: u64 = 1 << (HALF_BITS - TURN_BITS);
 
 // What is multiplied by for each half of a word: an odd number whose bits are spread.
 const FACTOR: u64 = 1_640_531_527;
 
-// A hash with half a word more in it. A product carries bits upwards only, so the hash is turned before: its highest bits become its lowest.
+// A hash with half a word more in it. A product carries bits upwards only, so the hash is turned before: its highest
+// bits become its lowest.
 fn stirred(hash: u64, half: u64) -> u64
     requires { ⌜ (hash < halfWord) × (half < halfWord) ⌝ }
     ensures { λ r. ⌜ (r ≡ stirred hash half) × (r < halfWord) ⌝ }
@@ -36,10 +44,10 @@ fn mixed(hash: u64, word: u64) -> u64
     stirred(low, word / HALF)
 }
 
-// The bucket of a key, by the highest bits of its hash.
-pub(crate) fn bucket_of(key: &[u64], room: usize) -> usize
-    requires { ⌜ (keyBytes ≤ wordBytes * length (now key)) × (1 ≤ room) × (room ≤ limits .records) ⌝ }
-    ensures { λ r. ⌜ (r ≡ bucketOf room (byteAt (now (key .entry)))) × (r < room) ⌝ }
+// The bucket of a key, of so many buckets, by the highest bits of its hash.
+pub(crate) fn bucket_of(key: &[u64], buckets: usize) -> usize
+    requires { ⌜ (keyBytes ≤ wordBytes * length (now key)) × (1 ≤ buckets) × (buckets ≤ limits .records) ⌝ }
+    ensures { λ r. ⌜ (r ≡ bucketOf buckets (byteAt (now (key .entry)))) × (r < buckets) ⌝ }
 {
     let mut hash = 0;
     let mut i = 0;
@@ -47,5 +55,5 @@ pub(crate) fn bucket_of(key: &[u64], room: usize) -> usize
         hash = mixed(hash, key[i]);
         i += 1;
     }
-    (hash * room as u64 / HALF) as usize
+    (hash * buckets as u64 / HALF) as usize
 }

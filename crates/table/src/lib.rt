@@ -1,19 +1,22 @@
-// The table: records one behind the other, each known by its number, and found by the index. It knows registers and bytes, and no search.
+// The table: records one behind the other, each known by its number, and found by the index. It knows registers and
+// bytes, and no search.
 mod index;
-pub mod record;
+mod record;
 
 ghost use mathlib.Core.Path.{_≡_};
-ghost use Prim.Native.Nat.{ℕ, _+_, _*_, _≤_};
+ghost use Prim.Native.Nat.{ℕ, _<_};
 ghost use lib.ListN.{length, replicate};
-ghost use Rattle.ground.specs.Limits.{limits};
 ghost use Rattle.table.specs.Room.{roomOf};
-ghost use Rattle.table.specs.Inner.Records.{recordAt};
+ghost use Rattle.table.specs.Inner.Records.{RegistersIn, linkIn, frameIn, recordAt, roomIn, OneRecord};
 ghost use Rattle.table.specs.Inner.Tables.{Filled, Looks, CanStore, Stores};
 use crate::index::bucket_of;
 use crate::record::CHAIN;
 use crate::record::HEAD;
+use crate::record::LINK;
+use crate::record::frame_of;
 use crate::record::key_of;
-use crate::record::link_at;
+use crate::record::read_link;
+use crate::record::registers_of;
 use crate::record::same_key;
 use crate::record::write_link;
 use crate::record::write_record;
@@ -39,40 +42,66 @@ pub fn room_of(table: &[u8]) -> usize
 }
 
 // A record of a table, by its number.
-pub fn record_at(table: &[u8], n: usize) -> &[u8]
-    requires { ⌜ (n + 1) * limits .record_bytes ≤ length (now table) ⌝ }
-    ensures { λ r. ⌜ now r ≡ recordAt (now (table .entry)) n ⌝ }
+fn record_at(table: &[u8], n: usize) -> &[u8]
+    requires { ⌜ n < roomIn (now table) ⌝ }
+    ensures { λ r. ⌜ OneRecord (now (table .entry)) n (now r) ⌝ }
 {
     let base = n * RECORD;
     &table[base..base + RECORD]
 }
 
+// The registers that a record keeps.
+pub fn registers_at(table: &[u8], n: usize) -> Registers
+    requires { ⌜ n < roomIn (now table) ⌝ }
+    ensures { λ r. ⌜ RegistersIn (recordAt (now (table .entry)) n) r ⌝ }
+{
+    registers_of(record_at(table, n))
+}
+
+// The link of a record: the number of the record that it came from and one more, or 0.
+pub fn link_at(table: &[u8], n: usize) -> usize
+    requires { ⌜ n < roomIn (now table) ⌝ }
+    ensures { λ r. ⌜ r ≡ linkIn (recordAt (now (table .entry)) n) ⌝ }
+{
+    read_link(record_at(table, n), LINK)
+}
+
+// The frame byte of a record.
+pub fn frame_at(table: &[u8], n: usize) -> u8
+    requires { ⌜ n < roomIn (now table) ⌝ }
+    ensures { λ r. ⌜ r ≡ frameIn (recordAt (now (table .entry)) n) ⌝ }
+{
+    frame_of(record_at(table, n))
+}
+
 // Looks registers up among the records that are in the index, down the chain of their bucket.
-pub fn find(table: &[u8], room: usize, registers: Registers) -> Look
-    requires { ⌜ ((stored : ℕ) × Filled room (now table) stored) ⌝ }
-    ensures { λ r. ⌜ ((stored : ℕ) → Filled room (now (table .entry)) stored → Looks (now (table .entry)) stored registers r) ⌝ }
+pub fn find(table: &[u8], registers: Registers) -> Look
+    requires { ⌜ ((stored : ℕ) × Filled (now table) stored) ⌝ }
+    ensures { λ r.
+        ⌜ ((stored : ℕ) → Filled (now (table .entry)) stored → Looks (now (table .entry)) stored registers r) ⌝ }
 {
     let key = key_of(registers);
-    let bucket = bucket_of(&key, room);
-    let mut at = link_at(record_at(table, bucket), HEAD);
+    let bucket = bucket_of(&key, table.len() / RECORD);
+    let mut at = read_link(record_at(table, bucket), HEAD);
     while at != 0 {
         let n = at - 1;
-        if same_key(record_at(table, n), &key) {
+        let bytes = record_at(table, n);
+        if same_key(bytes, &key) {
             return Look::At(n);
         }
-        at = link_at(record_at(table, n), CHAIN);
+        at = read_link(bytes, CHAIN);
     }
     Look::Nowhere
 }
 
 // Stores a state as the record of a number, and puts it in front of the chain of its bucket.
-pub fn store(table: &mut [u8], room: usize, n: usize, registers: Registers, link: usize, frame: u8)
-    requires { ⌜ CanStore room (now table) n link ⌝ }
-    ensures { λ r. ⌜ Stores room (now (table .entry)) (now (table .exit)) n registers link frame ⌝ }
+pub fn store(table: &mut [u8], n: usize, registers: Registers, link: usize, frame: u8)
+    requires { ⌜ CanStore (now table) n link ⌝ }
+    ensures { λ r. ⌜ Stores (now (table .entry)) (now (table .exit)) n registers link frame ⌝ }
 {
     let key = key_of(registers);
-    let bucket = bucket_of(&key, room);
-    let head = link_at(record_at(&table[..], bucket), HEAD);
+    let bucket = bucket_of(&key, table.len() / RECORD);
+    let head = read_link(record_at(&table[..], bucket), HEAD);
     let base = n * RECORD;
     write_record(
         &mut table[base..base + RECORD],

@@ -1,35 +1,52 @@
-// A record of the table: the registers of a state (64 bytes: two for each counter, lowest first, and a bit for each delay bit), the link to the
-// record that it came from (three bytes: its number and one more, or 0), and the frame byte that led here. Behind them stands a part of the index,
-// in the form of the link: the record before this one in its bucket, and the last record of the bucket that has this record's number.
+// A record of the table: the registers of a state (64 bytes: two for each counter, lowest first, and a bit for each
+// delay bit), the link to the record that it came from (three bytes: its number and one more, or 0), and the frame byte
+// that led here. Behind them stands a part of the index, in the form of the link: the record before this one in its
+// bucket, and the last record of the bucket that has this record's number.
 ghost use mathlib.Core.Path.{_≡_};
 ghost use Prim.Native.Nat.{_+_, _*_, _≤_, _<_};
 ghost use lib.ListN.{length, drop};
 ghost use Rattle.ground.specs.Limits.{limits};
-ghost use Rattle.table.specs.Inner.Records.{wordBytes, keyBytes, nibbleOf, bitsValue, halfOf, keyByte, byteAt, wordOf, mostLink, Whole, KeptBy, KeyWord, KeyOf, SameKey, KeyWritten, CountersOf, DelaysOf, linkAt, LinkWritten, frameIn, Written};
+ghost use Rattle.table.specs.Inner.Records.{byteBits, wordBytes, keyBytes, wordOfEight, linkSize, nibbleOf, bitsValue, halfOf, keyByte, byteAt, wordOf, mostLink, Whole, RegistersIn, KeyWord, KeyOf, SameKey, KeyWritten, CountersOf, DelaysOf, linkAt, LinkWritten, frameIn, Written};
 use ground::byte::byte_of;
 use ground::byte::wide;
 use ground::limits::COUNTERS;
 use ground::limits::DELAYS;
 use sequencer::registers::Registers;
 
-// The bytes of the counters, and of all registers.
-const COUNTER_BYTES: usize = 2 * COUNTERS;
+// How many bits a byte has, and how many values; how many values four bits have.
+pub(crate) const BITS: usize = 8;
 
-const KEY: usize = COUNTER_BYTES + DELAYS / 8;
+const VALUES: u16 = 1 << BITS;
+
+const NIBBLE: u8 = 1 << (BITS / 2);
+
+// The bytes of a counter, of all counters, and of all registers.
+const COUNTER: usize = 2;
+
+const COUNTER_BYTES: usize = COUNTER * COUNTERS;
+
+const KEY: usize = COUNTER_BYTES + DELAYS / BITS;
 
 // The bytes of a word, and the words of all registers.
-const WORD: usize = 8;
+pub(crate) const WORD: usize = 8;
 
 pub(crate) const WORDS: usize = KEY / WORD;
 
-// Where the link, the frame byte, and the two numbers of the index stand.
-pub const LINK: usize = KEY;
+// The bytes of a link, and what its second and third byte count.
+const LINK_BYTES: usize = 3;
 
-const FRAME: usize = LINK + 3;
+const SECOND: usize = VALUES as usize;
+
+const THIRD: usize = SECOND * SECOND;
+
+// Where the link, the frame byte, and the two numbers of the index stand.
+pub(crate) const LINK: usize = KEY;
+
+const FRAME: usize = LINK + LINK_BYTES;
 
 pub(crate) const CHAIN: usize = FRAME + 1;
 
-pub(crate) const HEAD: usize = CHAIN + 3;
+pub(crate) const HEAD: usize = CHAIN + LINK_BYTES;
 
 // Four bits as a number, the first lowest.
 fn nibble_of(a: bool, b: bool, c: bool, d: bool) -> u8
@@ -40,12 +57,12 @@ fn nibble_of(a: bool, b: bool, c: bool, d: bool) -> u8
 
 // Eight bits as a byte, the first lowest.
 fn bits_byte(bits: &[bool], at: usize) -> u8
-    requires { ⌜ at + 8 ≤ length (now bits) ⌝ }
-    ensures { λ r. ⌜ r ≡ bitsValue 8 (drop at (now (bits .entry))) ⌝ }
+    requires { ⌜ at + byteBits ≤ length (now bits) ⌝ }
+    ensures { λ r. ⌜ r ≡ bitsValue byteBits (drop at (now (bits .entry))) ⌝ }
 {
     let low = nibble_of(bits[at], bits[at + 1], bits[at + 2], bits[at + 3]);
     let high = nibble_of(bits[at + 4], bits[at + 5], bits[at + 6], bits[at + 7]);
-    low + 16 * high
+    low + NIBBLE * high
 }
 
 // One of a counter's two bytes.
@@ -53,9 +70,9 @@ fn half_of(counter: u16, which: usize) -> u8
     ensures { λ r. ⌜ r ≡ halfOf counter which ⌝ }
 {
     if which == 0 {
-        return (counter % 256) as u8;
+        return (counter % VALUES) as u8;
     }
-    (counter / 256) as u8
+    (counter / VALUES) as u8
 }
 
 // One of the bytes that keep registers, by its place.
@@ -64,9 +81,9 @@ fn key_byte(counters: &[u16], delays: &[bool], j: usize) -> u8
     ensures { λ r. ⌜ r ≡ keyByte (record { counters = now (counters .entry); delays = now (delays .entry) }) j ⌝ }
 {
     if j < COUNTER_BYTES {
-        return half_of(counters[j / 2], j % 2);
+        return half_of(counters[j / COUNTER], j % COUNTER);
     }
-    bits_byte(delays, 8 * (j - COUNTER_BYTES))
+    bits_byte(delays, BITS * (j - COUNTER_BYTES))
 }
 
 // Writes the bytes that keep registers.
@@ -85,10 +102,11 @@ fn write_key(registers: Registers, bytes: &mut [u8])
 
 // Eight bytes as a word, the first lowest.
 fn eight(a: u8, b: u8, c: u8, d: u8, e: u8, f: u8, g: u8, h: u8) -> u64
-    ensures { λ r. ⌜ r ≡ a + 256 * (b + 256 * (c + 256 * (d + 256 * (e + 256 * (f + 256 * (g + 256 * h)))))) ⌝ }
+    ensures { λ r. ⌜ r ≡ wordOfEight a b c d e f g h ⌝ }
 {
-    let high = e as u64 + 256 * (f as u64 + 256 * (g as u64 + 256 * h as u64));
-    a as u64 + 256 * (b as u64 + 256 * (c as u64 + 256 * (d as u64 + 256 * high)))
+    let values = VALUES as u64;
+    let high = e as u64 + values * (f as u64 + values * (g as u64 + values * h as u64));
+    a as u64 + values * (b as u64 + values * (c as u64 + values * (d as u64 + values * high)))
 }
 
 // One of the words that keep registers.
@@ -165,7 +183,7 @@ fn counters_of(bytes: &[u8]) -> [u16; COUNTERS]
     let mut counters = [0; COUNTERS];
     let mut i = 0;
     while i < COUNTERS {
-        counters[i] = wide(bytes[2 * i]) + wide(bytes[2 * i + 1]) * 256;
+        counters[i] = wide(bytes[COUNTER * i]) + wide(bytes[COUNTER * i + 1]) * VALUES;
         i += 1;
     }
     counters
@@ -179,16 +197,16 @@ fn delays_of(bytes: &[u8]) -> [bool; DELAYS]
     let mut delays = [false; DELAYS];
     let mut i = 0;
     while i < DELAYS {
-        delays[i] = (bytes[COUNTER_BYTES + i / 8] >> (i % 8)) % 2 == 1;
+        delays[i] = (bytes[COUNTER_BYTES + i / BITS] >> (i % BITS)) % 2 == 1;
         i += 1;
     }
     delays
 }
 
 // The registers that a record keeps.
-pub fn registers_of(bytes: &[u8]) -> Registers
+pub(crate) fn registers_of(bytes: &[u8]) -> Registers
     requires { ⌜ keyBytes ≤ length (now bytes) ⌝ }
-    ensures { λ r. ⌜ KeptBy (now (bytes .entry)) r ⌝ }
+    ensures { λ r. ⌜ RegistersIn (now (bytes .entry)) r ⌝ }
 {
     Registers {
         counters: counters_of(bytes),
@@ -197,17 +215,17 @@ pub fn registers_of(bytes: &[u8]) -> Registers
 }
 
 // A number of three bytes: a link of a record.
-pub fn link_at(bytes: &[u8], at: usize) -> usize
-    requires { ⌜ at + 3 ≤ length (now bytes) ⌝ }
+pub(crate) fn read_link(bytes: &[u8], at: usize) -> usize
+    requires { ⌜ at + linkSize ≤ length (now bytes) ⌝ }
     ensures { λ r. ⌜ (r ≡ linkAt at (now (bytes .entry))) × (r ≤ mostLink) ⌝ }
 {
     wide(bytes[at]) as usize
-        + wide(bytes[at + 1]) as usize * 256
-        + wide(bytes[at + 2]) as usize * 65_536
+        + wide(bytes[at + 1]) as usize * SECOND
+        + wide(bytes[at + 2]) as usize * THIRD
 }
 
 // The frame byte of a record.
-pub fn frame_of(bytes: &[u8]) -> u8
+pub(crate) fn frame_of(bytes: &[u8]) -> u8
     requires { ⌜ length (now bytes) ≡ limits .record_bytes ⌝ }
     ensures { λ r. ⌜ r ≡ frameIn (now (bytes .entry)) ⌝ }
 {
@@ -216,12 +234,12 @@ pub fn frame_of(bytes: &[u8]) -> u8
 
 // Writes a number of three bytes: a link of a record.
 pub(crate) fn write_link(bytes: &mut [u8], at: usize, link: usize)
-    requires { ⌜ (at + 3 ≤ length (now bytes)) × (link ≤ mostLink) ⌝ }
+    requires { ⌜ (at + linkSize ≤ length (now bytes)) × (link ≤ mostLink) ⌝ }
     ensures { λ r. ⌜ LinkWritten at link (now (bytes .entry)) (now (bytes .exit)) ⌝ }
 {
-    bytes[at] = (link % 256) as u8;
-    bytes[at + 1] = (link / 256 % 256) as u8;
-    bytes[at + 2] = (link / 65_536) as u8;
+    bytes[at] = (link % SECOND) as u8;
+    bytes[at + 1] = (link / SECOND % SECOND) as u8;
+    bytes[at + 2] = (link / THIRD) as u8;
 }
 
 // Writes a record: registers, link, frame byte, and the record before it in its bucket.

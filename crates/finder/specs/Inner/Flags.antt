@@ -1,4 +1,5 @@
--- The bytes that matter to code: it names the flags of its FLAG instructions, and a byte with another flag is passed over. Contracts of inner functions cite it; `search` says nothing of it.
+-- The bytes that matter to code: it names the flags of its FLAG instructions, and a byte with another flag is passed
+-- over. Contracts of inner functions cite it; `search` says nothing of it.
 use mathlib.Core.Path.{_≡_}
 use mathlib.Core.Bool.{Bool, true, false}
 use mathlib.Core.List.{List}
@@ -38,4 +39,5 @@ pub record Passed (named passed : List Bool) (n : ℕ) : Type 0 where
 -- Bytes that are passed over with code: each has a flag that the code does not name
 pub record PassesOver (code : Code) (passed : List Bool) : Type 0 where
   pub all : length passed ≡ frameBytes
-  pub own : (byte : ℕ) → byte < frameBytes → getD passed byte false ≡ true → (k : ℕ) × (hasFlag k byte ≡ true) × (Names code k → ⊥)
+  pub own : (byte : ℕ) → byte < frameBytes → getD passed byte false ≡ true → (k : ℕ) × (hasFlag k byte ≡ true)
+      × (Names code k → ⊥)

@@ -1,5 +1,6 @@
--- An executable model of the search, over any machine, for computing samples: it tries the trials of `Searching.antt` in turn, one in each move. `proofs/Model.antt` shows that
--- what it answers is right. States are kept beside their clips, so that none is computed again.
+-- An executable model of the search, over any machine, for computing samples: it tries the trials of `Searching.antt`
+-- in turn, one in each move. `proofs/Model.antt` shows that what it answers is right. States are kept beside their
+-- clips, so that none is computed again.
 use mathlib.Core.Path.{_≡_}
 use mathlib.Core.Bool.{Bool, true, false}
 use mathlib.Core.List.{List, [], _∷_, _++_}
@@ -56,7 +57,8 @@ among m t (s ∷ states) = elim (m .same s t) [ true ↦ true | false ↦ among 
 
 -- The next byte, with these clips, their states, and whether a state was found without a record
 abbrev pub nextByte : {S : Type 0} → Place S → List Clip → List S → Bool → Place S
-nextByte p clips states full = record { clips = clips; states = states; k = p .k; b = p .b + 1; ended = p .ended; full = full }
+nextByte p clips states full =
+    record { clips = clips; states = states; k = p .k; b = p .b + 1; ended = p .ended; full = full }
 
 -- A trial led to a new state: it is stored, if there is a record for it
 abbrev pub newState : {S : Type 0} → Bool → Place S → S → Place S
@@ -75,14 +77,17 @@ tried false m room p = let t = m .step (stateAt m p) (p .b) in go (ledTo (among 
 
 -- The next trial with a state, if there is one; else the next state
 abbrev pub onState : {S : Type 0} → Bool → Machine S → ℕ → Place S → Moved S
-onState true m room p = go (record { clips = p .clips; states = p .states; k = p .k + 1; b = 0; ended = p .ended; full = p .full })
+onState true m room p =
+    go (record { clips = p .clips; states = p .states; k = p .k + 1; b = 0; ended = p .ended; full = p .full })
 onState false m room p = tried (m .out (stateAt m p) (p .b)) m room p
 
--- All clips of a length are tried: without a record for some state it is "no room"; with no new state there is none; else the next length begins
+-- All clips of a length are tried: without a record for some state it is "no room"; with no new state there is none;
+-- else the next length begins
 abbrev pub onLength : {S : Type 0} → Bool → Bool → Place S → Moved S
 onLength true old p = stop noRoom
 onLength false true p = stop (none (p .ended))
-onLength false false p = go (record { clips = p .clips; states = p .states; k = p .k; b = p .b; ended = length (p .clips); full = p .full })
+onLength false false p =
+    go (record { clips = p .clips; states = p .states; k = p .k; b = p .b; ended = length (p .clips); full = p .full })
 
 -- One move, at the end of a length or before it
 abbrev pub moveAt : {S : Type 0} → Bool → Machine S → ℕ → Place S → Moved S

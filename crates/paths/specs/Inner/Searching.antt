@@ -1,6 +1,7 @@
--- Where the search stands, over any step function: what is stored, and which trials are behind it. Trial (k, b) is state k with frame byte b in front. Contracts of inner
--- functions and the model cite it; the answers say nothing of it. Document 01: "Search goes by length and stops at the first state and frame byte whose output is 1, states in
--- the order of their first clip, bytes 0 to 255. Only states reached by clips shorter than the answer need a record."
+-- Where the search stands, over any step function: what is stored, and which trials are behind it. Trial (k, b) is
+-- state k with frame byte b in front. Contracts of inner functions and the model cite it; the answers say nothing of
+-- it. Document 01: "Search goes by length and stops at the first state and frame byte whose output is 1, states in the
+-- order of their first clip, bytes 0 to 255. Only states reached by clips shorter than the answer need a record."
 use mathlib.Core.Path.{_≡_}
 use mathlib.Core.Bool.{Bool, true}
 use mathlib.Core.List.{List, [], _∷_}
@@ -11,7 +12,8 @@ use Rattle.ground.specs.Buffers.{byteValues, AllBytes}
 use Rattle.ground.specs.Frames.{Clip}
 use Rattle.paths.specs.Order.{Less}
 
--- States go by steps: what a frame in front of a clip leads to, and whether it satisfies, depends on the clip's state alone
+-- States go by steps: what a frame in front of a clip leads to, and whether it satisfies, depends on the clip's state
+-- alone
 pub record Stepwise {S : Type 0} (state : Clip → S) (Meets : Clip → Type 0) : Type 0 where
   pub leads : (x : ℕ) (c d : Clip) → state c ≡ state d → state (x ∷ c) ≡ state (x ∷ d)
   pub meets : (x : ℕ) (c d : Clip) → state c ≡ state d → Meets (x ∷ c) → Meets (x ∷ d)
@@ -42,9 +44,11 @@ pub record Spare {S : Type 0} (state : Clip → S) (clips : List Clip) (frames :
   pub long : length clip ≡ frames
   pub new : (i : ℕ) → i < length clips → state (clipAt clips i) ≡ state clip → ⊥
 
--- The search before trial (k, b): `clips` are those of the stored states, the first `ended` of them no longer than `frames`; clips of one frame more are tried, and `full` says
--- that one of them reached a state for which there was no record
-pub record Searching {S : Type 0} (state : Clip → S) (Meets : Clip → Type 0) (room : ℕ) (clips : List Clip) (frames k b ended : ℕ) (full : Bool) : Type 0 where
+-- The search before trial (k, b): `clips` are those of the stored states, the first `ended` of them no longer than
+-- `frames`; clips of one frame more are tried, and `full` says that one of them reached a state for which there was no
+-- record
+pub record Searching {S : Type 0} (state : Clip → S) (Meets : Clip → Type 0) (room : ℕ) (clips : List Clip)
+    (frames k b ended : ℕ) (full : Bool) : Type 0 where
   pub some : 1 ≤ ended
   pub begun : ended ≤ length clips
   pub upto : k ≤ ended
@@ -54,7 +58,8 @@ pub record Searching {S : Type 0} (state : Clip → S) (Meets : Clip → Type 0)
   pub rising : (i j : ℕ) → i < j → j < length clips → Less (clipAt clips i) (clipAt clips j)
   pub different : (i j : ℕ) → i < j → j < length clips → state (clipAt clips i) ≡ state (clipAt clips j) → ⊥
   pub quiet : (i x : ℕ) → Tried k b i x → Meets (x ∷ clipAt clips i) → ⊥
-  pub kept : (i x : ℕ) → Tried k b i x → Stored state clips (x ∷ clipAt clips i) ⊎ ((full ≡ true) × (length (clipAt clips i) ≡ frames))
+  pub kept : (i x : ℕ) → Tried k b i x → Stored state clips (x ∷ clipAt clips i)
+      ⊎ ((full ≡ true) × (length (clipAt clips i) ≡ frames))
   pub older : (i : ℕ) → i < ended → length (clipAt clips i) ≤ frames
   pub present : (i : ℕ) → k ≤ i → i < ended → length (clipAt clips i) ≡ frames
   pub newer : (i : ℕ) → ended ≤ i → i < length clips → length (clipAt clips i) ≡ frames + 1

@@ -1,5 +1,7 @@
 -- `record_at` meets its contract: the part that it hands back is the record.
-use Rattle.table.proofs.Tables.{part-record}
+use Rattle.table.proofs.Tables.{part-record, record-length}
+use mathlib.Core.Path.{ap, _∙_}
+use lib.ListN.{length}
 use borrow.Author.Needs.{needs}
 use Rattle.table.proofs.record_at.Statement.{statement}
 use Rattle.table.proofs.record_at.Tie as tie
@@ -20,7 +22,10 @@ part-result-end : tie.Need-part-result-end
 part-result-end c = search needs
 
 returns : tie.Need-returns
-returns c = part-record (c .before .args .table .now) (c .before .args .n)
+returns c =
+    let a = c .before .args in
+    let own = part-record (a .table .now) (a .n) in
+    record { own = own; long = ap length own ∙ record-length (a .table .now) (a .n) (c .before .pre) }
 
 pub record-at-spec : {M : Type 1} → statement M
 record-at-spec =

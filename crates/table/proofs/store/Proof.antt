@@ -1,9 +1,6 @@
 -- `store` meets its contract: what is written into the parts that it lends is put in the place of the record, and of the record that tells its bucket's head.
 use borrow.Author.Needs.{needs}
-use native.Mathlib.Omega.{arith}
-use mathlib.Core.Path.{ap, _∙_}
-use lib.ListN.{length}
-use Rattle.table.proofs.Tables.{part-record, record-length, stores}
+use Rattle.table.proofs.Tables.{part-record, stores}
 use Rattle.table.proofs.store.Statement.{statement}
 use Rattle.table.proofs.store.Tie as tie
 
@@ -19,10 +16,8 @@ bucket-of-requires c κs = search needs
 record-at-requires : tie.Need-record-at-requires
 record-at-requires c κs = search needs
 
-link-at-requires : tie.Need-link-at-requires
-link-at-requires c κs =
-    let long = ap length (c .record-at .ensures) ∙ record-length (c .before .before .before .before .before .before .args .table .now) (c .before .before .bucket-of .result) (omega arith) in
-    omega (arith, long)
+read-link-requires : tie.Need-read-link-requires
+read-link-requires c κs = search needs
 
 mul-base : tie.Need-mul-base
 mul-base c = search needs
@@ -67,11 +62,15 @@ same-length : tie.Need-same-length
 same-length c = search needs
 
 returns : tie.Need-returns
-returns c = let w = c .before .before .before .before .before .before in
+returns c =
+    let w = c .before .before .before .before .before .before in
     let l = w .before .before in
-    let k = l .before .before .before .before .before in
-    stores _ _ _ _ _ _ _ _ _ _ _ (k .before .before .pre) (k .key-of .ensures) (l .before .before .before .bucket-of .ensures .0) (l .before .before .before .bucket-of .ensures .1)
-    (rw (l .before .record-at .ensures) at (l .link-at .ensures .0)) (rw part-record at (w .write-record .ensures)) (rw part-record at (c .before .before .write-link .ensures))
+    let b = l .before .before .before in
+    let k = b .before .before in
+    let head = rw (l .before .record-at .ensures .own) at (l .read-link .ensures .0) in
+    let written = rw part-record at (w .write-record .ensures) in
+    let linked = rw part-record at (c .before .before .write-link .ensures) in
+    stores _ _ _ _ _ _ _ _ _ _ (k .before .before .pre) (k .key-of .ensures) (b .bucket-of .ensures .0) (b .bucket-of .ensures .1) head written linked
 
 pub store-spec : {M : Type 1} → statement M
 store-spec =
@@ -81,7 +80,7 @@ store-spec =
     slice-aggregate-bucket-of
     bucket-of-requires
     record-at-requires
-    link-at-requires
+    read-link-requires
     mul-base
     add-write-record
     sub-write-record

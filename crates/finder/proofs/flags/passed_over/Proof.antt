@@ -1,4 +1,5 @@
--- `passed_over` meets its contract. The loop's invariant: the bytes so far are passed over as they should be (`Passed`). The measure is how many bytes are left.
+-- `passed_over` meets its contract. The loop's invariant: the bytes so far are passed over as they should be (`Passed`). The measure is how many bytes are
+-- left.
 use mathlib.Core.Path.{refl}
 use Prim.Native.Nat.{_-_}
 use native.Mathlib.Omega.{arith}

@@ -1,39 +1,57 @@
--- `search` meets its contract: the rule's refusal, 14, or what the search for the rule answers.
-use mathlib.Core.Path.{_≡_}
+-- `search` meets its contract: the rule's refusal, 14, or what the search by the rule's code answers.
+use native.Mathlib.Nat.{sub-zero}
 use native.Mathlib.Omega.{arith}
 use Rattle.ground.specs.Buffers.{AllBytes}
-use Rattle.rules.specs.Loading.{readRule, loadedOf}
-use Rattle.rules.specs.Loaded.{LoadedFrom}
-use Rattle.finder.proofs.Answered.{rule-loaded, horizon-near, searchable, says-refused, says-short, says-answers}
+use Rattle.finder.proofs.Answered.{horizon-near, count-few, numbers-inside, can-search, refusal-said, says-short, says-answers}
 use borrow.Author.Needs.{needs}
 use Rattle.finder.proofs.search.search.Statement.{statement}
 use Rattle.finder.proofs.search.search.Tie as tie
 
 -- the rule is a row of bytes
-small : (c : tie.After-shared-slice-known) → AllBytes (c .before .args .rule .now)
-small c i = omega (arith, c .shared-slice-known .given i)
+small : (c : tie.After-prepare) → AllBytes (c .before .before .before .before .args .rule .now)
+small c i = omega (arith, c .before .before .before .shared-slice-known .given i)
 
--- what loading answers, and the rule that is loaded
-answered : (c : tie.After-decode) → c .decode .result .loaded ≡ loadedOf (readRule (c .before .before .before .before .args .rule .now))
-answered c = rule-loaded _ _ (c .decode .ensures)
-
-loads : (c : tie.After-decode) → LoadedFrom (c .before .before .before .before .args .rule .now) (c .decode .result)
-loads c = record { small = small (c .before .before .before); own = c .decode .ensures }
-
-decode-requires : tie.Need-decode-requires
-decode-requires c κs = search needs
+prepare-requires : tie.Need-prepare-requires
+prepare-requires c κs = search needs
 
 enum-known-loaded : tie.Need-enum-known-loaded
 enum-known-loaded c = search needs
 
 add-if1 : tie.Need-add-if1
-add-if1 c = omega (arith, horizon-near _ _ (answered (c .before .before .before)) _ _ (c .before .loaded .given .1) (small (c .before .before .before .before .before .before)))
+add-if1 c =
+    let l = c .before in
+    let p = l .before .before in
+    omega (arith, horizon-near _ _ (p .prepare .ensures) _ _ (l .loaded .given .1) (small p))
 
 returns : tie.Need-returns
-returns c = says-short _ _ (answered (c .before .before .before .before)) _ _ (c .before .before .loaded .given .1) _ (c .if1 .taken) _
+returns c =
+    let l = c .before .before in
+    says-short _ _ (l .before .before .prepare .ensures) _ _ (l .loaded .given .1) _ (c .if1 .taken) _
 
-search-rule-requires : tie.Need-search-rule-requires
-search-rule-requires c κs = (_, searchable _ _ (answered (c .before .before .before .before .before .before)) _ _ (c .before .before .before .before .loaded .given .1) _ (c .before .before .if1 .left) _ (loads (c .before .before .before .before .before .before)))
+mul-length : tie.Need-mul-length
+mul-length c =
+    let l = c .before .before .before .before in
+    let p = l .before .before in
+    omega (arith, count-few _ _ (p .prepare .ensures) _ _ (l .loaded .given .1) (small p))
+
+sub-search-code : tie.Need-sub-search-code
+sub-search-code c = search needs
+
+part-search-code-start : tie.Need-part-search-code-start
+part-search-code-start c = search needs
+
+part-search-code-end : tie.Need-part-search-code-end
+part-search-code-end c =
+    let l = c .before .before .before .before .before in
+    let p = l .before .before in
+    omega (arith, numbers-inside _ _ (p .prepare .ensures) _ _ (l .loaded .given .1) (small p))
+
+search-code-requires : tie.Need-search-code-requires
+search-code-requires c κs =
+    let e = c .before .before .before .before .before .before in
+    let l = e .before .before in
+    let p = l .before .before in
+    rw sub-zero (can-search _ _ (p .prepare .ensures) _ _ (l .loaded .given .1) (small p) _ (e .if1 .left))
 
 enum-known-loaded-2 : tie.Need-enum-known-loaded-2
 enum-known-loaded-2 c = search needs
@@ -46,23 +64,31 @@ same-length-2 c = search needs
 
 returns-2 : tie.Need-returns-2
 returns-2 c =
-    let answer = answered (c .before .before .before .before .before .before .before .before .before .before .before) in
-    let accepts = c .before .before .before .before .before .before .before .before .before .loaded .given .1 in
-    let long = c .before .before .before .before .before .before .before .if1 .left in
-    says-answers _ _ answer _ _ accepts _ long _ _ _ _ (c .before .before .before .before .search-rule .ensures _ (searchable _ _ answer _ _ accepts _ long _ (loads (c .before .before .before .before .before .before .before .before .before .before .before))))
+    let s = c .before .before .before .before in
+    let e = s .before .before .before .before .before .before .before in
+    let l = e .before .before in
+    let p = l .before .before in
+    let answers = rw sub-zero at (s .search-code .ensures) in
+    says-answers _ _ (p .prepare .ensures) _ _ (l .loaded .given .1) (small p) _ (e .if1 .left) _ _ _ _ answers
 
 returns-3 : tie.Need-returns-3
-returns-3 c = says-refused _ _ (answered (c .before .before .before)) _ _ _ (c .before .loaded2 .given .1)
+returns-3 c =
+    let l = c .before in
+    refusal-said _ _ (l .before .before .prepare .ensures) _ _ _ (l .loaded2 .given .1)
 
 pub search-spec : {M : Type 1} → statement M
 search-spec =
     tie.close
     (tie.spec
-    decode-requires
+    prepare-requires
     enum-known-loaded
     add-if1
     returns
-    search-rule-requires
+    mul-length
+    sub-search-code
+    part-search-code-start
+    part-search-code-end
+    search-code-requires
     enum-known-loaded-2
     same-length
     same-length-2

@@ -58,7 +58,9 @@ loop-less : tie.Need-loop-less Inv-loop μ-loop
 loop-less c = omega arith
 
 loop-again : tie.Need-loop-again Inv-loop μ-loop
-loop-again c = counters-more (c .before .before .before .before .before .loop .inv) (omega arith) _ (omega (arith, c .before .before .wide .ensures .0, c .wide2 .ensures .0))
+loop-again c =
+    let low = c .before .before in
+    counters-more (low .before .before .before .loop .inv) (omega arith) _ (omega (arith, low .wide .ensures .0, c .wide2 .ensures .0))
 
 returns : tie.Need-returns Inv-loop μ-loop
 returns c = record { all = c .before .loop .inv .all; own = λ i h. c .before .loop .inv .own i (omega arith) }

@@ -1,8 +1,9 @@
 -- `key_word` meets its contract: what it puts together are the eight bytes of the word, each of which is a byte.
+use mathlib.Core.Path.{_≡_}
 use Prim.Native.Nat.{_*_}
 use native.Mathlib.Omega.{arith}
 use Rattle.sequencer.specs.declared.registers.Registers.{Registers}
-use Rattle.table.specs.Inner.Records.{keyByte, wordBytes}
+use Rattle.table.specs.Inner.Records.{keyByte, wordBytes, wordOf}
 use Rattle.table.proofs.Words.{Eight, eight-each, word-eight}
 use borrow.Author.Needs.{needs}
 use Rattle.table.proofs.record.key_word.Statement.{statement}
@@ -11,19 +12,57 @@ use Rattle.table.proofs.record.key_word.Tie as tie
 abbrev registers : tie.Start → Registers
 registers s = record { counters = s .args .counters .now; delays = s .args .delays .now }
 
+-- where the function begins, from behind the eight bytes
+abbrev start : tie.After-key-byte8 → tie.Start
+start c = c .before .before .before .before .before .before .before .before .before .before
+
 -- the eight bytes are bytes
-small : (c : tie.After-key-byte8) → Eight (keyByte (registers (c .before .before .before .before .before .before .before .before .before .before))) (wordBytes * c .before .before .before .before .before .before .before .before .before .before .args .i)
+small : (c : tie.After-key-byte8) → Eight (keyByte (registers (start c))) (wordBytes * start c .args .i)
 small c =
+    let c7 = c .before in
+    let c6 = c7 .before in
+    let c5 = c6 .before in
+    let c4 = c5 .before in
+    let c3 = c4 .before in
+    let c2 = c3 .before in
+    let c1 = c2 .before in
     record {
-      first = omega (arith, c .before .before .before .before .before .before .before .key-byte .ok, c .before .before .before .before .before .before .before .key-byte .ensures);
-      second = omega (arith, c .before .before .before .before .before .before .key-byte2 .ok, c .before .before .before .before .before .before .key-byte2 .ensures);
-      third = omega (arith, c .before .before .before .before .before .key-byte3 .ok, c .before .before .before .before .before .key-byte3 .ensures);
-      fourth = omega (arith, c .before .before .before .before .key-byte4 .ok, c .before .before .before .before .key-byte4 .ensures);
-      fifth = omega (arith, c .before .before .before .key-byte5 .ok, c .before .before .before .key-byte5 .ensures);
-      sixth = omega (arith, c .before .before .key-byte6 .ok, c .before .before .key-byte6 .ensures);
-      seventh = omega (arith, c .before .key-byte7 .ok, c .before .key-byte7 .ensures);
+      first = omega (arith, c1 .key-byte .ok, c1 .key-byte .ensures);
+      second = omega (arith, c2 .key-byte2 .ok, c2 .key-byte2 .ensures);
+      third = omega (arith, c3 .key-byte3 .ok, c3 .key-byte3 .ensures);
+      fourth = omega (arith, c4 .key-byte4 .ok, c4 .key-byte4 .ensures);
+      fifth = omega (arith, c5 .key-byte5 .ok, c5 .key-byte5 .ensures);
+      sixth = omega (arith, c6 .key-byte6 .ok, c6 .key-byte6 .ensures);
+      seventh = omega (arith, c7 .key-byte7 .ok, c7 .key-byte7 .ensures);
       eighth = omega (arith, c .key-byte8 .ok, c .key-byte8 .ensures);
     }
+
+-- the word by the eight bytes
+own : (c : tie.After-eight) → c .eight .result ≡ wordOf (keyByte (registers (start (c .before)))) (start (c .before) .args .i)
+own c =
+    let s = start (c .before) in
+    let c8 = c .before in
+    let c7 = c8 .before in
+    let c6 = c7 .before in
+    let c5 = c6 .before in
+    let c4 = c5 .before in
+    let c3 = c4 .before in
+    let c2 = c3 .before in
+    let c1 = c2 .before in
+    let word = word-eight (keyByte (registers s)) (wordBytes * s .args .i) in
+    omega (
+      arith,
+      c .eight .ensures,
+      word,
+      c1 .key-byte .ensures,
+      c2 .key-byte2 .ensures,
+      c3 .key-byte3 .ensures,
+      c4 .key-byte4 .ensures,
+      c5 .key-byte5 .ensures,
+      c6 .key-byte6 .ensures,
+      c7 .key-byte7 .ensures,
+      c8 .key-byte8 .ensures,
+    )
 
 mul-at : tie.Need-mul-at
 mul-at c = search needs
@@ -77,9 +116,7 @@ eight-requires : tie.Need-eight-requires
 eight-requires c κs = search needs
 
 returns : tie.Need-returns
-returns c =
-    let s = c .before .before .before .before .before .before .before .before .before .before .before in
-    record { own = omega (arith, c .eight .ensures, word-eight (keyByte (registers s)) (wordBytes * s .args .i), c .before .before .before .before .before .before .before .before .key-byte .ensures, c .before .before .before .before .before .before .before .key-byte2 .ensures, c .before .before .before .before .before .before .key-byte3 .ensures, c .before .before .before .before .before .key-byte4 .ensures, c .before .before .before .before .key-byte5 .ensures, c .before .before .before .key-byte6 .ensures, c .before .before .key-byte7 .ensures, c .before .key-byte8 .ensures); small = eight-each (small (c .before)) }
+returns c = record { own = own c; small = eight-each (small (c .before)) }
 
 pub key-word-spec : {M : Type 1} → statement M
 key-word-spec =

@@ -59,7 +59,9 @@ eight-requires : tie.Need-eight-requires
 eight-requires c κs = search needs
 
 returns : tie.Need-returns
-returns c = let s = c .before .before .before .before .before .before .before .before .before .before .args in c .eight .ensures ∙ word-eight (byteAt (s .bytes .now)) (wordBytes * s .i)
+returns c =
+    let s = c .before .before .before .before .before .before .before .before .before .before .args in
+    c .eight .ensures ∙ word-eight (byteAt (s .bytes .now)) (wordBytes * s .i)
 
 pub word-of-spec : {M : Type 1} → statement M
 word-of-spec =

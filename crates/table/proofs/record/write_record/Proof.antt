@@ -19,7 +19,11 @@ write-link-requires-2 : tie.Need-write-link-requires-2
 write-link-requires-2 c κs = (simp length-set (omega arith), omega arith)
 
 returns : tie.Need-returns
-returns c = written-all (c .before .before .before .before .before .before .before .before .before .before .write-key .ensures) (c .before .before .before .before .before .before .write-link .ensures) (c .before .before .write-link2 .ensures) (omega arith)
+returns c =
+    let chained = c .before .before in
+    let linked = chained .before .before .before .before in
+    let keyed = linked .before .before .before .before in
+    written-all (keyed .write-key .ensures) (linked .write-link .ensures) (chained .write-link2 .ensures) (omega arith)
 
 same-length : tie.Need-same-length
 same-length c = returns c .same

@@ -1,5 +1,6 @@
--- Document 01's marked samples, proved together. The model of the search, run with the registers and the output of a rule's code, computes each answer with room for just the states
--- that it counts. The answer is right by that code's output, and so by the rule's meaning; it stays right with more room; and no other one is right.
+-- Document 01's marked samples, proved together. The model of the search, run with the registers and the output of a rule's code, computes each answer with
+-- room for just the states that it counts. The answer is right by that code's output, and so by the rule's meaning; it stays right with more room; and no other
+-- one is right.
 use mathlib.Core.Path.{_≡_, refl, sym, ap, _∙_}
 use mathlib.Core.Bool.{Bool, true, false, Bool·beq, _&&_, false≢true, and-eq-true-iff}
 use mathlib.Core.List.{List, [], _∷_}
@@ -8,7 +9,7 @@ use Prim.Native.Nat.{ℕ, zero, suc, _≤_}
 use native.Mathlib.Omega.{arith}
 use borrow.Author.Tests.{ltb-true, eqb-true, eq-eqb}
 use lib.Dec.{eqb, ltb}
-use lib.ListN.{length}
+use lib.ListN.{length, drop}
 use Rattle.ground.specs.Buffers.{byteValues, AllBytes}
 use Rattle.ground.specs.Each.{Each}
 use Rattle.ground.proofs.Each.{each-then}
@@ -37,10 +38,10 @@ use Rattle.paths.specs.Answers.{Answer, met, none, noRoom}
 use Rattle.paths.specs.Inner.Model.{Machine, after, MachineHits, Ended, ended, unfinished, modelled}
 use Rattle.paths.proofs.Model.{model-right}
 use Rattle.paths.proofs.Unique.{one-answer, right-alike}
 use Rattle.finder.specs.Search.{statesOf, foundOf, witnessAfter}
-use Rattle.finder.specs.Samples.{Sample, searches, refuses, judges, emits, FoundRight, samples}
+use Rattle.samples.specs.Samples.{Sample, searches, refuses, eachFrame, emits, FoundRight, samples}
 use Rattle.finder.proofs.Turns.{output-step}
 use Rattle.finder.proofs.Answered.{hits-holds, answers-said}
 
 -- Whether two lists are the same, by a test of their elements
 module _ {A : Type 0} (test : A → A → Bool) where
@@ -143,7 +144,8 @@ module _ (rule : List ℕ) (is : Items) (f : Formula) (bytes : areBytes rule ≡
       (model-right machine registers-sound registers-finds room fuel a e)
 
   -- and it is what the search says
-  searches-right : (h fuel : ℕ) (a : Answer) → horizon f ≡ h → 1 ≤ statesOf (foundOf a) → modelled machine (statesOf (foundOf a)) fuel ≡ ended a → FoundRight (searches rule h a)
+  searches-right : (h fuel : ℕ) (a : Answer) → horizon f ≡ h → 1 ≤ statesOf (foundOf a) → modelled machine (statesOf (foundOf a)) fuel ≡ ended a
+      → FoundRight (searches rule h a)
   searches-right h fuel a near some e = (
     (length is, rw (reads, near)),
     λ table witness room long r table′ witness′ says.
@@ -165,7 +167,7 @@ computed rule (refused r) a = (false, 0, unfinished)
 abbrev Computes : Sample → Type 0
 Computes (searches rule h a) = computed rule (readRule rule) a ≡ (true, h, ended a)
 Computes (refuses rule refusal) = readRule rule ≡ refused refusal
-Computes (judges rule clip verdicts) = FoundRight (judges rule clip verdicts)
+Computes (eachFrame rule clip verdicts) = FoundRight (eachFrame rule clip verdicts)
 Computes (emits rule code) = FoundRight (emits rule code)
 
 -- A row that computes is right
@@ -178,11 +180,14 @@ right (searches rule h a) e = of (readRule rule) refl e
         searches-right rule is f bytes reads h moves a (ap (λ p. p .1) e) (ltb-true 0 (statesOf (foundOf a)) some) (ap (λ p. p .2) e)
     of (refused r) reads e = absurd (false≢true (ap (λ p. p .0) e))
 right (refuses rule refusal) e = λ table witness r table′ witness′ says. let given = rw e at says in (given .own-answer, given .own-table, given .own-witness)
-right (judges rule clip verdicts) e = e
+right (eachFrame rule clip verdicts) e = e
 right (emits rule code) e = e
 
 -- The run and the emitted code are rows of the emitter's samples
 pub samples-right : Each FoundRight samples
-unfolding samples emitter.samples readRule readAll inTurn itemAt numbersFrom look ruleCodes numberAt checkItem badWindow ruleTooLarge ruleCounts ruleCounted timedIn lowerIn stackFrom apply itemOf horizon laterBy timed itemCode translate advancedBy executed execute shifted next hasFlag
+unfolding samples emitter.samples readRule readAll inTurn itemAt numbersFrom look ruleCodes numberAt checkItem badWindow ruleTooLarge ruleCounts ruleCounted
+    timedIn lowerIn stackFrom apply itemOf horizon laterBy timed itemCode translate advancedBy executed execute shifted next hasFlag
 samples-right =
-    each-then Computes FoundRight right samples (refl, (refl, (refl, (refl, (refl, (refl, (refl, (refl, (refl, (refl, (refl, (refl, (refl, (refl, (refl, (emitted.samples-right .1 .1 .0, (emitted.samples-right .0, (refl, tt))))))))))))))))))
+    let rest : Each Computes (drop 15 samples) = (emitted.samples-right .1 .1 .0, (emitted.samples-right .0, (refl, tt))) in
+    each-then Computes FoundRight right samples
+    (refl, (refl, (refl, (refl, (refl, (refl, (refl, (refl, (refl, (refl, (refl, (refl, (refl, (refl, (refl, rest)))))))))))))))

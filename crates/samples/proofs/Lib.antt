@@ -1,0 +1,2 @@
+-- That every row is right.
+pub mod Samples
