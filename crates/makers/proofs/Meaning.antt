@@ -1,7 +1,7 @@
--- What made rules mean. The new bytes are those of the items of a formula, as the rules' bytes are and the operator's; such bytes are read as that formula or refused, so where the new
--- bytes are a rule, it is this formula.
+-- What made rules mean. The new bytes are those of the items of a formula, as the rules' bytes are and the operator's; such bytes are read as that formula
+-- or refused, so where the new bytes are a rule, it is this formula.
 use mathlib.Core.Path.{_≡_, refl, sym, ap, _∙_}
-use mathlib.Core.Bool.{Bool, true, false, false≢true, cond}
+use mathlib.Core.Bool.{Bool, true, false, false≢true}
 use mathlib.Core.List.{List, [], _∷_, _++_, append-nil}
 use mathlib.Core.Logic.{_⊎_, ⊎-elim}
 use Prim.Native.Nat.{ℕ, _+_, _<_, max}
@@ -12,7 +12,6 @@ use Rattle.ground.specs.Each.{Each}
 use Rattle.ground.specs.Frames.{Clip}
 use Rattle.reading.specs.InTurn.{bytesOfAll}
 use Rattle.reading.specs.Numbers.{numberBytes}
-use Rattle.ground.specs.declared.refusal.Refusal.{Refusal}
 use Rattle.ground.proofs.Buffers.{bytes-joined}
 use Rattle.ground.proofs.Choices.{else-taken}
 use Rattle.ground.proofs.Each.{each-joined}
@@ -26,7 +25,7 @@ use Rattle.rules.specs.declared.item.Item.{Item}
 use Rattle.rules.proofs.Accepted.{accepted-rule}
 use Rattle.rules.proofs.Agreement.{agreement}
 use Rattle.rules.proofs.TooLarge.{read-or-large}
-use Rattle.makers.specs.Making.{negation, conjunction, disjunction, nextFrame, orElse, newMade, oneMade, twoMade}
+use Rattle.makers.specs.Making.{negation, conjunction, disjunction, nextFrame, orElse, roomMade, newMade, oneMade, twoMade}
 use Rattle.makers.specs.Meaning.{Means}
 use Rattle.makers.specs.declared.make.Made.{Made}
 use Rattle.makers.specs.declared.make.Which.{Which}
@@ -72,7 +71,8 @@ module _ (rule : List ℕ) (is : Items) (f : Formula) (small : AllBytes rule) (r
 
 module _ (first second : List ℕ) (is js : Items) (f g : Formula) (small : AllBytes first) (bytes : AllBytes second)
     (read : readRule first ≡ accepted is f) (also : readRule second ≡ accepted js g) where
-  two-spell : (i : Item) → AllBytes (bytesOfItem i) → InRange i → Spells (first ++ (second ++ bytesOfItem i)) (postfix f ++ (postfix g ++ i ∷ []))
+  two-spell : (i : Item) → AllBytes (bytesOfItem i) → InRange i
+      → Spells (first ++ (second ++ bytesOfItem i)) (postfix f ++ (postfix g ++ i ∷ []))
   two-spell i b r = joined (rule-spells first is f small read) (joined (rule-spells second js g bytes also) (operator-spells i b r))
 
   pub both-spell : Spells (first ++ (second ++ conjunction)) (postfix (And f g))
@@ -84,11 +84,11 @@ module _ (first second : List ℕ) (is js : Items) (f g : Formula) (small : AllB
   either-spell = two-spell Item.Or disjunction-bytes (omega arith)
 
 -- a maker that answers a length has read the new bytes as a rule
-new-read : (new out : List ℕ) (n : ℕ) → newMade new out ≡ Made.Length n → (n ≡ length new) × (is : Items) × (f : Formula) × (readRule new ≡ accepted is f)
+new-read : (new out : List ℕ) (n : ℕ) → newMade new out ≡ Made.Length n
+    → (n ≡ length new) × (is : Items) × (f : Formula) × (readRule new ≡ accepted is f)
 new-read new out n e = go (readRule new) refl e
   where
-    go : (read : Reading) → readRule new ≡ read
-        → orElse Which.New read (cond (tooShort out new) (Made.Refused Which.New Refusal.ShortOutput) (Made.Length (length new))) ≡ Made.Length n
+    go : (read : Reading) → readRule new ≡ read → orElse Which.New read (roomMade new out) ≡ Made.Length n
         → (n ≡ length new) × (is : Items) × (f : Formula) × (readRule new ≡ accepted is f)
     go (accepted is f) q e =
         let (fits, same) = else-taken (tooShort out new) (λ d. let z : _≡_ {A = ℕ} 0 1 = cc in omega arith) e in
@@ -96,37 +96,49 @@ new-read new out n e = go (readRule new) refl e
     go (refused r) q e = absurd (let z : _≡_ {A = ℕ} 0 1 = cc in omega arith)
 
 -- and that rule is the formula whose items they spell: such bytes are read as it, or they are refused
-new-means : (h : Formula) (new out : List ℕ) (n : ℕ) → Spells new (postfix h) → newMade new out ≡ Made.Length n → (n ≡ length new) × Means new (Holds h) (horizon h)
+new-means : (h : Formula) (new out : List ℕ) (n : ℕ) → Spells new (postfix h) → newMade new out ≡ Made.Length n
+    → (n ≡ length new) × Means new (Holds h) (horizon h)
 new-means h new out n s e =
     let (own, is, f, read) = new-read new out n e in
     let spelt : readRule (ruleBytes (postfix h)) ≡ accepted is f = ap readRule (sym (s .own)) ∙ read in
     ⊎-elim
-    (λ q. (own, record { items = postfix h; formula = h; read = ap readRule (s .own) ∙ q; holds = λ c x. x; held = λ c x. x; horizon = refl }))
+    (λ q. (
+      own,
+      record { items = postfix h; formula = h; read = ap readRule (s .own) ∙ q; holds = λ c x. x; held = λ c x. x; horizon = refl },
+    ))
     (λ q. absurd (let z : _≡_ {A = ℕ} 0 1 = cc (q .1) in omega arith))
     (read-or-large h (s .ranges))
 
 -- The four makers
 
 module _ (rule out : List ℕ) (is : Items) (f : Formula) (n : ℕ) (small : AllBytes rule) (read : readRule rule ≡ accepted is f) where
-  pub negate-means : oneMade negation rule out ≡ Made.Length n → (n ≡ length (rule ++ negation)) × Means (rule ++ negation) (λ c. Holds f c → ⊥) (horizon f)
+  pub negate-means : oneMade negation rule out ≡ Made.Length n
+      → (n ≡ length (rule ++ negation)) × Means (rule ++ negation) (λ c. Holds f c → ⊥) (horizon f)
   unfolding Holds horizon
   negate-means e = new-means (Not f) (rule ++ negation) out n (negate-spells rule is f small read) (rw read at e)
 
-  pub next-means : oneMade nextFrame rule out ≡ Made.Length n → (n ≡ length (rule ++ nextFrame)) × Means (rule ++ nextFrame) (Holds (Globally 1 1 f)) (1 + horizon f)
+  pub next-means : oneMade nextFrame rule out ≡ Made.Length n
+      → (n ≡ length (rule ++ nextFrame)) × Means (rule ++ nextFrame) (Holds (Globally 1 1 f)) (1 + horizon f)
   unfolding horizon
   next-means e = new-means (Globally 1 1 f) (rule ++ nextFrame) out n (next-spells rule is f small read) (rw read at e)
 
 module _ (first second out : List ℕ) (is js : Items) (f g : Formula) (n : ℕ) (small : AllBytes first) (bytes : AllBytes second)
     (read : readRule first ≡ accepted is f) (also : readRule second ≡ accepted js g) where
   pub both-means : twoMade conjunction first second out ≡ Made.Length n
-      → (n ≡ length (first ++ (second ++ conjunction))) × Means (first ++ (second ++ conjunction)) (λ c. Holds f c × Holds g c) (max (horizon f) (horizon g))
+      → (n ≡ length (first ++ (second ++ conjunction)))
+      × Means (first ++ (second ++ conjunction)) (λ c. Holds f c × Holds g c) (max (horizon f) (horizon g))
   unfolding Holds horizon
-  both-means e = new-means (And f g) (first ++ (second ++ conjunction)) out n (both-spell first second is js f g small bytes read also) (rw (read, also) at e)
+  both-means e =
+      let spelt = both-spell first second is js f g small bytes read also in
+      new-means (And f g) (first ++ (second ++ conjunction)) out n spelt (rw (read, also) at e)
 
   pub either-means : twoMade disjunction first second out ≡ Made.Length n
-      → (n ≡ length (first ++ (second ++ disjunction))) × Means (first ++ (second ++ disjunction)) (λ c. Holds f c ⊎ Holds g c) (max (horizon f) (horizon g))
+      → (n ≡ length (first ++ (second ++ disjunction)))
+      × Means (first ++ (second ++ disjunction)) (λ c. Holds f c ⊎ Holds g c) (max (horizon f) (horizon g))
   unfolding Holds horizon
-  either-means e = new-means (Or f g) (first ++ (second ++ disjunction)) out n (either-spell first second is js f g small bytes read also) (rw (read, also) at e)
+  either-means e =
+      let spelt = either-spell first second is js f g small bytes read also in
+      new-means (Or f g) (first ++ (second ++ disjunction)) out n spelt (rw (read, also) at e)
 
 -- what does not fail to hold holds, as a test decides it
 stable : (f : Formula) (c : Clip) → ((Holds f c → ⊥) → ⊥) → Holds f c
@@ -137,9 +149,11 @@ stable f c twice = go (holds f c) refl
     go false e = absurd (twice (λ h. false≢true (sym e ∙ agreement f c .1 h)))
 
 -- `next` says: where there is a next frame, the rule holds from there on
-pub next-says : (f : Formula) (c : Clip) → (Holds (Globally 1 1 f) c → 1 < length c → Holds f (drop 1 c)) × ((1 < length c → Holds f (drop 1 c)) → Holds (Globally 1 1 f) c)
+pub next-says : (f : Formula) (c : Clip)
+    → (Holds (Globally 1 1 f) c → 1 < length c → Holds f (drop 1 c)) × ((1 < length c → Holds f (drop 1 c)) → Holds (Globally 1 1 f) c)
 unfolding Holds
 next-says f c = (
-  (λ k h. stable f (drop 1 c) (λ fails. k (record { longer = h; place = 1; from = omega arith; upto = omega arith; inside = h; right = fails; left = λ j a b x. x }))),
+  (λ k h. stable f (drop 1 c) (λ fails.
+      k (record { longer = h; place = 1; from = omega arith; upto = omega arith; inside = h; right = fails; left = λ j a b x. x }))),
   (λ k r. let one : r .place ≡ 1 = omega arith in (rw one at (r .right)) (k (r .longer))),
 )

@@ -10,13 +10,13 @@ pub which-number-unique : (κs : _) (a : _) (r s : _) (x y : _) → which-number
 which-number-unique κs a r s x y p q = cc
 
 pub negate-unique : (κs : _) (a : _) (r s : _) (x y : _) → negate.Post κs a r x → negate.Post κs a s y → (r ≡ s) × (x .1 .0 .now ≡ y .1 .0 .now)
-negate-unique κs a r s x y p q = let e = p .0 ∙ sym (q .0) in (e, rw e at (p .1) ∙ sym (q .1))
+negate-unique κs a r s x y p q = let e = p .own-answer ∙ sym (q .own-answer) in (e, rw e at (p .own-out) ∙ sym (q .own-out))
 
 pub next-unique : (κs : _) (a : _) (r s : _) (x y : _) → next.Post κs a r x → next.Post κs a s y → (r ≡ s) × (x .1 .0 .now ≡ y .1 .0 .now)
-next-unique κs a r s x y p q = let e = p .0 ∙ sym (q .0) in (e, rw e at (p .1) ∙ sym (q .1))
+next-unique κs a r s x y p q = let e = p .own-answer ∙ sym (q .own-answer) in (e, rw e at (p .own-out) ∙ sym (q .own-out))
 
 pub both-unique : (κs : _) (a : _) (r s : _) (x y : _) → both.Post κs a r x → both.Post κs a s y → (r ≡ s) × (x .1 .1 .0 .now ≡ y .1 .1 .0 .now)
-both-unique κs a r s x y p q = let e = p .0 ∙ sym (q .0) in (e, rw e at (p .1) ∙ sym (q .1))
+both-unique κs a r s x y p q = let e = p .own-answer ∙ sym (q .own-answer) in (e, rw e at (p .own-out) ∙ sym (q .own-out))
 
 pub either-unique : (κs : _) (a : _) (r s : _) (x y : _) → either.Post κs a r x → either.Post κs a s y → (r ≡ s) × (x .1 .1 .0 .now ≡ y .1 .1 .0 .now)
-either-unique κs a r s x y p q = let e = p .0 ∙ sym (q .0) in (e, rw e at (p .1) ∙ sym (q .1))
+either-unique κs a r s x y p q = let e = p .own-answer ∙ sym (q .own-answer) in (e, rw e at (p .own-out) ∙ sym (q .own-out))

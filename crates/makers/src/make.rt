@@ -1,11 +1,12 @@
-// New rules: negate, both, either and next put an operator behind one rule or two. The new bytes are joined in a workspace of their own and judged
-// there, so nothing is written unless all is well.
+// New rules: negate, both, either and next put an operator behind one rule or two. The new bytes are joined in a
+// workspace of their own and checked there, so nothing is written unless all is well.
 ghost use mathlib.Core.Path.{_≡_};
 ghost use mathlib.Core.List.{_++_};
 ghost use Prim.Native.Nat.{_+_, _≤_};
 ghost use lib.ListN.{length, take};
 ghost use Rattle.makers.specs.Making.{negation, conjunction, disjunction, nextFrame, mostOperator, mostNew, whichOf, MakesNew, MakesOne, MakesTwo};
 use ground::buffer::write_bytes;
+use ground::limits::MOST_RULE;
 use ground::refusal::Refusal;
 use rules::load::Loaded;
 use rules::load::load;
@@ -23,8 +24,11 @@ pub enum Made {
     Refused { which: Which, refusal: Refusal },
 }
 
-// Room for two rules and an operator: an accepted rule has at most 176 bytes, an operator at most 3.
-const MOST_NEW: usize = 355;
+// The longest operator: what next appends.
+const MOST_OPERATOR: usize = 3;
+
+// Room for two rules and an operator.
+const MOST_NEW: usize = 2 * MOST_RULE + MOST_OPERATOR;
 
 // Which of the three, numbered in document 01's order: 1 first, 2 second, 3 the new bytes.
 pub fn which_number(which: Which) -> u8
@@ -37,7 +41,7 @@ pub fn which_number(which: Which) -> u8
     }
 }
 
-// Judges the new bytes as a rule, then the room for them, and writes them.
+// Checks the new bytes as a rule, then the room for them, and writes them.
 fn conclude(new: &[u8], out: &mut [u8]) -> Made
     ensures { λ r. ⌜ MakesNew (now (new .entry)) (now (out .entry)) r (now (out .exit)) ⌝ }
 {
@@ -65,7 +69,8 @@ fn conclude(new: &[u8], out: &mut [u8]) -> Made
 // Puts an operator behind the rules that stand in a workspace up to an end, and concludes.
 fn finish(work: &mut [u8], end: usize, operator: &[u8], out: &mut [u8]) -> Made
     requires { ⌜ end + length (now operator) ≤ length (now work) ⌝ }
-    ensures { λ r. ⌜ MakesNew (take end (now (work .entry)) ++ now (operator .entry)) (now (out .entry)) r (now (out .exit)) ⌝ }
+    ensures { λ r. ⌜ MakesNew (take end (now (work .entry)) ++ now (operator .entry))
+        (now (out .entry)) r (now (out .exit)) ⌝ }
 {
     let length = write_bytes(&mut *work, end, operator);
     conclude(&work[..length], out)
@@ -95,7 +100,8 @@ fn one(rule: &[u8], operator: &[u8], out: &mut [u8]) -> Made
 // Joins two accepted rules and an operator.
 fn join(first: &[u8], second: &[u8], operator: &[u8], out: &mut [u8]) -> Made
     requires { ⌜ length (now first) + (length (now second) + length (now operator)) ≤ mostNew ⌝ }
-    ensures { λ r. ⌜ MakesNew (now (first .entry) ++ (now (second .entry) ++ now (operator .entry))) (now (out .entry)) r (now (out .exit)) ⌝ }
+    ensures { λ r. ⌜ MakesNew (now (first .entry) ++ (now (second .entry) ++ now (operator .entry)))
+        (now (out .entry)) r (now (out .exit)) ⌝ }
 {
     let mut work = [0; MOST_NEW];
     let middle = write_bytes(&mut work, 0, first);
@@ -106,7 +112,8 @@ fn join(first: &[u8], second: &[u8], operator: &[u8], out: &mut [u8]) -> Made
 // Makes a rule of two.
 fn two(first: &[u8], second: &[u8], operator: &[u8], out: &mut [u8]) -> Made
     requires { ⌜ length (now operator) ≤ mostOperator ⌝ }
-    ensures { λ r. ⌜ MakesTwo (now (operator .entry)) (now (first .entry)) (now (second .entry)) (now (out .entry)) r (now (out .exit)) ⌝ }
+    ensures { λ r. ⌜ MakesTwo (now (operator .entry)) (now (first .entry)) (now (second .entry))
+        (now (out .entry)) r (now (out .exit)) ⌝ }
 {
     match load(first) {
         Loaded::Accepted {
@@ -141,13 +148,14 @@ pub fn negate(rule: &[u8], out: &mut [u8]) -> Made
 pub fn next(rule: &[u8], out: &mut [u8]) -> Made
     ensures { λ r. ⌜ MakesOne nextFrame (now (rule .entry)) (now (out .entry)) r (now (out .exit)) ⌝ }
 {
-    let operator = [0x33, 0x01, 0x01];
+    let operator: [u8; MOST_OPERATOR] = [0x33, 0x01, 0x01];
     one(rule, &operator, out)
 }
 
 // Makes the rule that holds where both of two rules do.
 pub fn both(first: &[u8], second: &[u8], out: &mut [u8]) -> Made
-    ensures { λ r. ⌜ MakesTwo conjunction (now (first .entry)) (now (second .entry)) (now (out .entry)) r (now (out .exit)) ⌝ }
+    ensures { λ r. ⌜ MakesTwo conjunction (now (first .entry)) (now (second .entry))
+        (now (out .entry)) r (now (out .exit)) ⌝ }
 {
     let operator = [0x21];
     two(first, second, &operator, out)
@@ -155,7 +163,8 @@ pub fn both(first: &[u8], second: &[u8], out: &mut [u8]) -> Made
 
 // Makes the rule that holds where one of two rules does, or both.
 pub fn either(first: &[u8], second: &[u8], out: &mut [u8]) -> Made
-    ensures { λ r. ⌜ MakesTwo disjunction (now (first .entry)) (now (second .entry)) (now (out .entry)) r (now (out .exit)) ⌝ }
+    ensures { λ r. ⌜ MakesTwo disjunction (now (first .entry)) (now (second .entry))
+        (now (out .entry)) r (now (out .exit)) ⌝ }
 {
     let operator = [0x22];
     two(first, second, &operator, out)

@@ -1,17 +1,14 @@
--- What the header's accessors read of a word: 0 for an answer's part of a refusal's word, and for a refusal's part of an answer's. Document 01: "Each returns number and place"; "An answer gives met or
--- not, the length (0 if not) and the number of states"; "emitter and makers also give its length"; "the answer says which of the three was refused".
+-- What the header's accessors read of a word: 0 for an answer's part of a refusal's word, and for a refusal's part of
+-- an answer's. Document 01: "Each returns number and place; buffers stay as found, save for 15"; "An answer gives met
+-- or not, the length (0 if not) and the number of states"; "emitter and makers also give its length"; "the answer says
+-- which of the three was refused".
 use mathlib.Core.Path.{_≡_}
 use mathlib.Core.Bool.{Bool, cond}
+use mathlib.Core.List.{List}
 use Prim.Native.Nat.{ℕ, _/_, _%_}
 use lib.Dec.{ltb, eqb}
 use Rattle.ground.specs.Refusals.{numberOf, placeOf}
 use Rattle.ground.specs.declared.refusal.Refusal.{Refusal}
-use Rattle.rules.specs.declared.load.Loaded.{Loaded}
-use Rattle.sequencer.specs.declared.run.Ran.{Ran}
-use Rattle.emitter.specs.declared.emit.Emitted.{Emitted}
-use Rattle.finder.specs.declared.search.Found.{Found}
-use Rattle.makers.specs.Making.{whichOf}
-use Rattle.makers.specs.declared.make.Made.{Made}
 use Rattle.thistlecart.specs.Words.{bit8, bit16, bit24, bit32, bit40}
 
 -- thistlecart_refusal: the number, 0 where there is none
@@ -54,30 +51,13 @@ statesTold word = cond (answered word) (word / bit32) 0
 abbrev pub TellsRefusal : Refusal → ℕ → Type 0
 TellsRefusal r word = (refusalTold word ≡ numberOf r) × (placeTold word ≡ placeOf r)
 
--- A word tells what loading answers
-abbrev pub TellsLoaded : Loaded → ℕ → Type 0
-TellsLoaded (Loaded.Accepted items horizon) word = (refusalTold word ≡ 0) × (itemsTold word ≡ items) × (horizonTold word ≡ horizon)
-TellsLoaded (Loaded.Refused r) word = TellsRefusal r word
+-- The word is a refusal's
+abbrev pub IsRefused : ℕ → Type 0
+IsRefused word = refusalTold word ≡ 0 → ⊥
 
--- A word tells what the search answers: met or not, the length, 0 if not, and the states
-abbrev pub TellsFound : Found → ℕ → Type 0
-TellsFound (Found.Met length states) word =
-    (refusalTold word ≡ 0) × (metTold word ≡ 1) × (lengthTold word ≡ length) × (statesTold word ≡ states)
-TellsFound (Found.None states) word =
-    (refusalTold word ≡ 0) × (metTold word ≡ 0) × (lengthTold word ≡ 0) × (statesTold word ≡ states)
-TellsFound (Found.Refused r) word = TellsRefusal r word
-
--- A word tells what emitting answers
-abbrev pub TellsEmitted : Emitted → ℕ → Type 0
-TellsEmitted (Emitted.Length length) word = (refusalTold word ≡ 0) × (lengthTold word ≡ length)
-TellsEmitted (Emitted.Refused r) word = TellsRefusal r word
-
--- A word tells what a run answers
-abbrev pub TellsRan : Ran → ℕ → Type 0
-TellsRan Ran.Done word = refusalTold word ≡ 0
-TellsRan (Ran.Refused r) word = TellsRefusal r word
-
--- A word tells what a maker answers
-abbrev pub TellsMade : Made → ℕ → Type 0
-TellsMade (Made.Length length) word = (refusalTold word ≡ 0) × (lengthTold word ≡ length)
-TellsMade (Made.Refused which r) word = TellsRefusal r word × (whichTold word ≡ whichOf which)
+-- What the first demand asks of an entry that writes one buffer
+pub record TellsAndKeeps (Tells : Type 0) (out : List ℕ) (word : ℕ) (out′ : List ℕ) : Type 0 where
+  -- the word tells the answer
+  pub tells : Tells
+  -- a refusal leaves the buffer as it was
+  pub keeps : IsRefused word → out′ ≡ out

@@ -25,21 +25,34 @@ slice-aggregate-finish : tie.Need-slice-aggregate-finish
 slice-aggregate-finish c = search needs
 
 -- the first rule stands in the workspace
-put : (c : tie.After-write-bytes) → Standing mostNew (c .before .before .before .before .before .before .args .first .now) (c .write-bytes .last .0) (c .write-bytes .result)
+put : (c : tie.After-write-bytes) →
+    let start = c .before .before .before .before .before .before in
+    Standing mostNew (start .args .first .now) (c .write-bytes .last .0) (c .write-bytes .result)
 put c = standing-first _ _ _ _ _ refl (omega (arith, c .before .before .before .before .before .before .pre)) (c .write-bytes .ensures)
 
 -- and the second behind it
-put-both : (c : tie.After-write-bytes2) → Standing mostNew (c .before .before .before .before .before .before .before .before .before .args .first .now ++ c .before .before .before .before .before .before .before .before .before .args .second .now) (c .write-bytes2 .last .0) (c .write-bytes2 .result)
-put-both c = standing-more _ _ _ _ _ _ _ (put (c .before .before .before)) (omega (arith, c .before .before .before .before .before .before .before .before .before .pre)) (c .write-bytes2 .ensures)
+put-both : (c : tie.After-write-bytes2) →
+    let args = c .before .before .before .before .before .before .before .before .before .args in
+    Standing mostNew (args .first .now ++ args .second .now) (c .write-bytes2 .last .0) (c .write-bytes2 .result)
+put-both c =
+    let first = c .before .before .before in
+    let start = first .before .before .before .before .before .before in
+    standing-more _ _ _ _ _ _ _ (put first) (omega (arith, start .pre)) (c .write-bytes2 .ensures)
 
 finish-requires : tie.Need-finish-requires
-finish-requires c κs = let p = put-both (c .before .before .before) in omega (arith, p .own-end, p .own-size, length-append (c .before .before .before .before .before .before .before .before .before .before .before .before .args .first .now) (c .before .before .before .before .before .before .before .before .before .before .before .before .args .second .now), c .before .before .before .before .before .before .before .before .before .before .before .before .pre)
+finish-requires c κs =
+    let second = c .before .before .before in
+    let start = second .before .before .before .before .before .before .before .before .before in
+    let p = put-both second in
+    omega (arith, p .own-end, p .own-size, length-append (start .args .first .now) (start .args .second .now), start .pre)
 
 same-length : tie.Need-same-length
 same-length c = search needs
 
 returns : tie.Need-returns
-returns c = rw (put-both (c .before .before .before .before .before .before .before) .own-bytes, append-assoc) at (c .before .before .before .finish .ensures)
+returns c =
+    let finished = c .before .before .before in
+    rw (put-both (finished .before .before .before .before) .own-bytes, append-assoc) at (finished .finish .ensures)
 
 pub join-spec : {M : Type 1} → statement M
 join-spec =

@@ -3,7 +3,7 @@ use mathlib.Core.Path.{refl, sym, _∙_}
 use Prim.Native.Nat.{_≤_}
 use native.Mathlib.Omega.{arith}
 use lib.ListN.{length}
-use Rattle.rules.specs.Accepted.{mostRuleBytes}
+use Rattle.ground.specs.Limits.{mostRuleBytes}
 use Rattle.makers.specs.Making.{mostNew}
 use Rattle.makers.proofs.Making.{rule-short, one-refused, one-made, Standing, standing-first}
 use borrow.Author.Needs.{needs}
@@ -27,14 +27,23 @@ slice-aggregate-finish c = search needs
 
 -- the rule is short
 short : (c : tie.After-enum-told) → length (c .before .before .before .before .before .before .args .rule .now) ≤ mostRuleBytes
-short c = rule-short _ _ _ (λ i. omega (arith, c .before .before .before .before .before .shared-slice-known .given i)) (sym (c .enum-told .given .1) ∙ c .before .before .load .ensures)
+short c =
+    let loaded = c .before .before in
+    let bytes = loaded .before .before .before in
+    rule-short _ _ _ (λ i. omega (arith, bytes .shared-slice-known .given i)) (sym (c .enum-told .given .1) ∙ loaded .load .ensures)
 
 -- it stands in the workspace
-put : (c : tie.After-write-bytes) → Standing mostNew (c .before .before .before .before .before .before .before .before .args .rule .now) (c .write-bytes .last .0) (c .write-bytes .result)
+put : (c : tie.After-write-bytes) →
+    let start = c .before .before .before .before .before .before .before .before in
+    Standing mostNew (start .args .rule .now) (c .write-bytes .last .0) (c .write-bytes .result)
 put c = standing-first _ _ _ _ _ refl (omega (arith, short (c .before .before))) (c .write-bytes .ensures)
 
 finish-requires : tie.Need-finish-requires
-finish-requires c κs = let p = put (c .before .before .before) in omega (arith, p .own-end, p .own-size, short (c .before .before .before .before .before), c .before .before .before .before .before .before .before .before .before .before .before .pre)
+finish-requires c κs =
+    let wrote = c .before .before .before in
+    let told = wrote .before .before in
+    let p = put wrote in
+    omega (arith, p .own-end, p .own-size, short told, told .before .before .before .before .before .before .pre)
 
 enum-known-refusal : tie.Need-enum-known-refusal
 enum-known-refusal c = search needs
@@ -43,10 +52,20 @@ same-length : tie.Need-same-length
 same-length c = search needs
 
 returns : tie.Need-returns
-returns c = let e = rw (put (c .before .before .before .before .before .before .before) .own-bytes) at (c .before .before .before .finish .ensures) in (one-made _ _ (c .before .before .before .before .before .before .before .before .before .before .before .before .before .before .before .args .out .now) _ _ _ (sym (c .before .before .before .before .before .before .before .before .before .enum-told .given .1) ∙ c .before .before .before .before .before .before .before .before .before .before .before .load .ensures) (e .0), e .1)
+returns c =
+    let finished = c .before .before .before in
+    let wrote = finished .before .before .before .before in
+    let told = wrote .before .before in
+    let loaded = told .before .before in
+    let out = loaded .before .before .before .before .args .out .now in
+    let new = rw (put wrote .own-bytes) at (finished .finish .ensures) in
+    one-made _ _ out _ _ _ _ (sym (told .enum-told .given .1) ∙ loaded .load .ensures) new
 
 returns-2 : tie.Need-returns-2
-returns-2 c = (one-refused _ _ (c .before .before .before .before .before .before .before .args .out .now) _ (sym (c .before .refusal .given .1) ∙ c .before .before .before .load .ensures), refl)
+returns-2 c =
+    let told = c .before in
+    let loaded = told .before .before in
+    one-refused _ _ (loaded .before .before .before .before .args .out .now) _ (sym (told .refusal .given .1) ∙ loaded .load .ensures)
 
 pub one-spec : {M : Type 1} → statement M
 one-spec =

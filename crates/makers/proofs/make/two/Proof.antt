@@ -1,5 +1,5 @@
--- `two` meets its contract: first and second rule are judged in turn; two that are accepted are short enough to be joined.
-use mathlib.Core.Path.{refl, sym, _∙_}
+-- `two` meets its contract: first and second rule are checked in turn; two that are accepted are short enough to be joined.
+use mathlib.Core.Path.{sym, _∙_}
 use native.Mathlib.Omega.{arith}
 use Rattle.makers.proofs.Making.{rule-short, first-refused, second-refused, two-made}
 use borrow.Author.Needs.{needs}
@@ -19,7 +19,19 @@ enum-told-2 : tie.Need-enum-told-2
 enum-told-2 c = search needs
 
 join-requires : tie.Need-join-requires
-join-requires c κs = let first = rule-short _ _ _ (λ i. omega (arith, c .before .before .before .before .before .before .before .before .before .before .shared-slice-known .given i)) (sym (c .before .before .before .before .enum-told .given .1) ∙ c .before .before .before .before .before .before .load .ensures) in let second = rule-short _ _ _ (λ i. omega (arith, c .before .before .before .before .before .before .before .before .before .shared-slice-known2 .given i)) (sym (c .before .enum-told2 .given .1) ∙ c .before .before .before .load2 .ensures) in omega (arith, first, second, c .before .before .before .before .before .before .before .before .before .before .before .pre)
+join-requires c κs =
+    let told2 = c .before in
+    let loaded2 = told2 .before .before in
+    let told = loaded2 .before in
+    let loaded = told .before .before in
+    let bytes2 = loaded .before .before .before in
+    let bytes = bytes2 .before in
+    let first =
+    rule-short _ _ _ (λ i. omega (arith, bytes .shared-slice-known .given i)) (sym (told .enum-told .given .1) ∙ loaded .load .ensures) in
+    let second =
+    rule-short _ _ _ (λ i. omega (arith, bytes2 .shared-slice-known2 .given i))
+    (sym (told2 .enum-told2 .given .1) ∙ loaded2 .load2 .ensures) in
+    omega (arith, first, second, bytes .before .pre)
 
 enum-known-refusal : tie.Need-enum-known-refusal
 enum-known-refusal c = search needs
@@ -31,13 +43,33 @@ same-length : tie.Need-same-length
 same-length c = search needs
 
 returns : tie.Need-returns
-returns c = (two-made _ _ _ (c .before .before .before .before .before .before .before .before .before .before .before .before .before .before .args .out .now) _ _ (sym (c .before .before .before .before .before .before .before .enum-told .given .1) ∙ c .before .before .before .before .before .before .before .before .before .load .ensures) _ _ _ (sym (c .before .before .before .before .enum-told2 .given .1) ∙ c .before .before .before .before .before .before .load2 .ensures) (c .before .before .join .ensures .0), c .before .before .join .ensures .1)
+returns c =
+    let joined = c .before .before in
+    let told2 = joined .before .before in
+    let loaded2 = told2 .before .before in
+    let told = loaded2 .before in
+    let loaded = told .before .before in
+    let out = loaded .before .before .before .before .before .args .out .now in
+    let first = sym (told .enum-told .given .1) ∙ loaded .load .ensures in
+    let second = sym (told2 .enum-told2 .given .1) ∙ loaded2 .load2 .ensures in
+    two-made _ _ _ out _ _ first _ _ _ _ second (joined .join .ensures)
 
 returns-2 : tie.Need-returns-2
-returns-2 c = (second-refused _ _ _ (c .before .before .before .before .before .before .before .before .before .before .before .args .out .now) _ _ (sym (c .before .before .before .before .enum-told .given .1) ∙ c .before .before .before .before .before .before .load .ensures) _ (sym (c .before .refusal .given .1) ∙ c .before .before .before .load2 .ensures), refl)
+returns-2 c =
+    let told2 = c .before in
+    let loaded2 = told2 .before .before in
+    let told = loaded2 .before in
+    let loaded = told .before .before in
+    let out = loaded .before .before .before .before .before .args .out .now in
+    let first = sym (told .enum-told .given .1) ∙ loaded .load .ensures in
+    second-refused _ _ _ out _ _ first _ (sym (told2 .refusal .given .1) ∙ loaded2 .load2 .ensures)
 
 returns-3 : tie.Need-returns-3
-returns-3 c = (first-refused _ _ _ (c .before .before .before .before .before .before .before .before .args .out .now) _ (sym (c .before .refusal2 .given .1) ∙ c .before .before .before .load .ensures), refl)
+returns-3 c =
+    let told = c .before in
+    let loaded = told .before .before in
+    let out = loaded .before .before .before .before .before .args .out .now in
+    first-refused _ _ _ out _ (sym (told .refusal2 .given .1) ∙ loaded .load .ensures)
 
 pub two-spec : {M : Type 1} → statement M
 two-spec =
