@@ -8,8 +8,9 @@ use Rattle.ground.specs.Frames.{Clip}
 use Rattle.ground.specs.Refusals.{numberOf, placeOf}
 use Rattle.ground.specs.declared.refusal.Refusal.{Refusal}
 use Rattle.ground.proofs.Refusals.{numbered}
-use Rattle.standing.specs.Text.{ascii, spaced, framesText, headText, metText, noneText, refusedText}
-use Rattle.standing.proofs.Decimal.{five-digits}
+use Rattle.text.specs.Digits.{ascii}
+use Rattle.standing.specs.Text.{spaced, framesText, headText, metText, noneText, refusedText}
+use Rattle.text.proofs.Decimal.{five-digits}
 
 -- three bytes for each frame
 spaced-length : (c : Clip) → length (spaced c) ≡ 3 * length c

@@ -12,11 +12,12 @@ use Rattle.rules.specs.Formula.{horizon}
 use Rattle.rules.specs.Items.{itemOf, apply}
 use Rattle.rules.specs.Loading.{stackFrom, timedIn, lowerIn, ruleCounts, ruleCounted, badWindow, ruleTooLarge, checkItem, readRule}
 use Rattle.table.specs.Room.{roomOf}
-use Rattle.finder.specs.Samples.{samples}
+use Rattle.samples.specs.Samples.{samples}
 use Rattle.finder.specs.declared.search.Found.{Found}
-use Rattle.finder.proofs.Samples.{samples-right}
+use Rattle.samples.proofs.Samples.{samples-right}
 use Rattle.standing.specs.Standing.{standingText, Prints}
-use Rattle.standing.specs.Text.{ascii, digitsIn, decimal, spaced, metText, noneText, refusedText}
+use Rattle.text.specs.Digits.{ascii, digitsIn, decimal}
+use Rattle.standing.specs.Text.{spaced, metText, noneText, refusedText}
 
 -- the fifth rule, and the lines that the document has for it
 abbrev pub fifth : List ℕ
@@ -27,7 +28,8 @@ example = ascii "rule 5 bytes 2 items\nhorizon 4\nmet 3 frames 4 states\n00 00 0
 
 -- they are the text, with what the search finds for the rule
 pub met-sample : (rest : List ℕ) → standingText (length fifth) (readRule fifth) (Found.Met 3 4) (0x00 ∷ 0x00 ∷ 0x01 ∷ rest) ≡ example
-unfolding ascii digitsIn decimal spaced readRule readAll inTurn itemAt numbersFrom look ruleCodes numberAt checkItem badWindow ruleTooLarge ruleCounts ruleCounted timedIn lowerIn stackFrom apply itemOf horizon
+unfolding ascii digitsIn decimal spaced readRule readAll inTurn itemAt numbersFrom look ruleCodes numberAt checkItem badWindow ruleTooLarge ruleCounts
+    ruleCounted timedIn lowerIn stackFrom apply itemOf horizon
 met-sample rest = refl
 
 -- so this is what `write_standing` writes for it, whatever its buffers are, if the table has room for the states and the witness buffer for horizon + 1 bytes

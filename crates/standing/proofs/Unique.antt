@@ -1,5 +1,5 @@
--- What `write_standing` states allows one answer: two lengths that it allows of the same arguments are equal, and so are the text, the table and the witness buffer after it. The search
--- says one thing of a rule, and the text is a function of what it says. `Post` is the function's own `ensures`.
+-- What `write_standing` states allows one answer: two lengths that it allows of the same arguments are equal, and so are the text, the table and the witness
+-- buffer after it. The search says one thing of a rule, and the text is a function of what it says. `Post` is the function's own `ensures`.
 use mathlib.Core.Path.{_≡_, sym, ap, _∙_}
 use mathlib.Core.List.{List}
 use Prim.Native.Nat.{ℕ}
@@ -10,7 +10,8 @@ use Rattle.finder.proofs.Unique.{says-one}
 use Rattle.standing.specs.Standing.{standingText, Prints}
 use Rattle.standing.proofs.standing.write_standing.Reads as write-standing
 
-stands-one : (rule table witness text : List ℕ) (m n : ℕ) (t u v w x y : List ℕ) → Prints rule table witness text m t v x → Prints rule table witness text n u w y
+stands-one : (rule table witness text : List ℕ) (m n : ℕ) (t u v w x y : List ℕ) → Prints rule table witness text m t v x
+    → Prints rule table witness text n u w y
     → (m ≡ n) × (t ≡ u) × (v ≡ w) × (x ≡ y)
 stands-one rule table witness text m n t u v w x y p q =
     let (found, tables, witnesses) = says-one table witness (p .found) (q .found) t u v w (readRule rule) (p .says) (q .says) in

@@ -1,4 +1,4 @@
 -- What the contracts of `standing` cite.
 pub mod Text
 pub mod Standing
-pub mod Writing
+pub mod Inner

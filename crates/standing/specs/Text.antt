@@ -1,37 +1,13 @@
--- The program's text. Document 01, "Program": "input bytes and items; horizon; length and states; the frames, two lower-case hex digits each. With none: `none 4 states` and no fourth
--- line. A refusal: only `refused 5 at 0` (number, place). The words stay the same for a count of 1."
-use mathlib.Core.Bool.{cond}
+-- The program's text. Document 01, "Program": "input bytes and items; horizon; length and states; the frames, two
+-- lower-case hex digits each. With none: `none 4 states` and no fourth line. A refusal: only `refused 5 at 0` (number,
+-- place). The words stay the same for a count of 1."
 use mathlib.Core.List.{List, [], _∷_, _++_}
-use Prim.Native.Char.{code}
-use Prim.Native.Nat.{ℕ, zero, suc, _+_, _/_, _%_}
-use Prim.Native.String.{String, [] as []ˢ, _∷_ as _∷ˢ_}
-use lib.Dec.{ltb}
+use Prim.Native.Nat.{ℕ}
 use lib.ListN.{length}
 use Rattle.ground.specs.Frames.{Clip}
 use Rattle.ground.specs.Refusals.{numberOf, placeOf}
 use Rattle.ground.specs.declared.refusal.Refusal.{Refusal}
-
--- Words as bytes
-unfoldable pub ascii : String → List ℕ
-ascii []ˢ = []
-ascii (c ∷ˢ s) = code c ∷ ascii s
-
--- A digit: `0` to `9`, then `a` to `f`
-abbrev pub digit : ℕ → ℕ
-digit d = cond (ltb d 10) (48 + d) (87 + d)
-
--- The digits of a number, the most significant first; as many turns as it has digits suffice
-unfoldable pub digitsIn : ℕ → ℕ → List ℕ
-digitsIn zero n = []
-digitsIn (suc turns) n = cond (ltb n 10) [] (digitsIn turns (n / 10)) ++ digit (n % 10) ∷ []
-
--- A number in decimal
-unfoldable pub decimal : ℕ → List ℕ
-decimal n = digitsIn (n + 1) n
-
--- A frame as two hex digits
-abbrev pub hexByte : ℕ → List ℕ
-hexByte frame = digit (frame / 16) ∷ digit (frame % 16) ∷ []
+use Rattle.text.specs.Digits.{ascii, decimal, hexByte}
 
 -- Frames, a space before each
 unfoldable pub spaced : Clip → List ℕ
@@ -46,12 +22,14 @@ framesText (x ∷ c) = hexByte x ++ (spaced c ++ ascii "\n")
 -- The lines on a rule: input bytes, items and horizon
 abbrev pub headText : ℕ → ℕ → ℕ → List ℕ
 headText bytes items horizon =
-    (ascii "rule " ++ decimal bytes) ++ ((ascii " bytes " ++ decimal items) ++ ((ascii " items\nhorizon " ++ decimal horizon) ++ ascii "\n"))
+    (ascii "rule " ++ decimal bytes)
+    ++ ((ascii " bytes " ++ decimal items) ++ ((ascii " items\nhorizon " ++ decimal horizon) ++ ascii "\n"))
 
 -- The lines on a clip that meets it: length, states and frames
 abbrev pub metText : ℕ → Clip → List ℕ
 metText states frames =
-    (ascii "met " ++ decimal (length frames)) ++ ((ascii " frames " ++ decimal states) ++ (ascii " states\n" ++ framesText frames))
+    (ascii "met " ++ decimal (length frames))
+    ++ ((ascii " frames " ++ decimal states) ++ (ascii " states\n" ++ framesText frames))
 
 -- The line that there is none
 abbrev pub noneText : ℕ → List ℕ

@@ -1,22 +1,24 @@
-// Prints the standing of a rule: how long it is, how far it looks, and the first clip that meets it, or that there is none.
+// Prints the standing of a rule: how long it is, how far it looks, and the first clip that meets it, or that there is
+// none.
 //
 // Standard input: the rule's bytes, of which up to 1,024 are read. Standard output: document 01's text under "Program".
+mod clip;
 mod standing;
-mod text;
 
 use crate::standing::MOST_TEXT;
 use crate::standing::write_standing;
+use ground::limits::MOST_HORIZON;
 use libc::STDIN_FILENO;
 use libc::STDOUT_FILENO;
 
 // How many bytes are read.
 const MOST_BYTES: usize = 1_024;
 
-// The length of the table: 819 records.
+// The length of the table.
 const TABLE: usize = 65_536;
 
 // The length of the witness buffer: the greatest that 14 can ask.
-const WITNESS: usize = 4_081;
+const WITNESS: usize = MOST_HORIZON + 1;
 
 fn main() {
     let mut rule = [0; MOST_BYTES];

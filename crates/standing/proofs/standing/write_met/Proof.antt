@@ -1,34 +1,43 @@
--- `write_met` meets its contract: both words with their numbers, the word behind these and the frames are the pieces of the lines, and each finds what is left when it is written.
-use mathlib.Core.Path.{refl}
-use mathlib.Core.List.{_++_}
-use lib.ListN.{length}
-use Rattle.standing.specs.Text.{ascii, decimal, metText}
-use Rattle.standing.proofs.Writing.{Left, all-left, room-for, behind, behind-bytes}
+-- `write_met` meets its contract: both words with their numbers, the word behind these and the frames are the pieces of the lines, and each is written where
+-- there is room for what is left.
+use mathlib.Core.List.{List}
+use Prim.Native.Nat.{ℕ}
+use Rattle.text.specs.Digits.{ascii}
+use Rattle.text.proofs.Writing.{Left, whole, behind}
+use Rattle.standing.specs.Text.{framesText, metText}
 use borrow.Author.Needs.{needs}
 use Rattle.standing.proofs.standing.write_met.Statement.{statement}
 use Rattle.standing.proofs.standing.write_met.Tie as tie
 
-lines : (c : tie.Start) → Left (c .args .text .now) (c .args .at) (metText (c .args .states) (c .args .frames .now)) (c .args .text .now) (c .args .at) (metText (c .args .states) (c .args .frames .now))
-lines c = all-left (c .args .text .now) (c .args .at) (metText (c .args .states) (c .args .frames .now)) _ refl (c .pre .1)
+-- what is left of the lines
+abbrev Lines : tie.Start → List ℕ → ℕ → List ℕ → Type 0
+Lines start = Left (start .args .text .now) (start .args .at) (metText (start .args .states) (start .args .frames .now))
 
--- what is written, piece by piece, is the text
-returns : tie.Need-returns
+-- once all but the frames is written
+abbrev started : tie.After-write-bytes → tie.Start
+started c = c .before .before .before .before .before .before .before .before .before .before .before .before .before .before .before
+
+frames-left : (c : tie.After-write-bytes)
+    → Lines (started c) (c .write-bytes .last .0) (c .write-bytes .result) (framesText (started c .args .frames .now))
 unfolding ascii
-returns c = behind-bytes _ _ (behind _ _ (behind _ _ (lines (c .before .before .before .before .before .before .before .before .before .before .before .before .before .before .before .before .before .before .before .before .before)) (c .before .before .before .before .before .before .before .before .before .before .before .before .before .before .before .before .write-count .ensures)) (c .before .before .before .before .before .before .before .before .before .before .before .write-count2 .ensures)) (c .before .before .before .before .before .before .write-bytes .ensures) .finish _ _ (c .before .before .write-frames .ensures)
+frames-left c =
+    let counted = c .before .before .before .before .before in
+    let met = counted .before .before .before .before .before in
+    let start = started c in
+    let lines = whole (start .args .text .now) (start .args .at) (metText (start .args .states) (start .args .frames .now)) (start .pre .1) in
+    behind _ _ (behind _ _ (behind _ _ lines (met .write-count .ensures)) (counted .write-count2 .ensures)) (c .write-bytes .ensures)
 
 slice-aggregate-write-count : tie.Need-slice-aggregate-write-count
 slice-aggregate-write-count c = search needs
 
 write-count-requires : tie.Need-write-count-requires
-unfolding ascii
-write-count-requires c κs = room-for (ascii "met " ++ decimal (length (c .before .before .before .before .args .frames .now))) _ (lines (c .before .before .before .before))
+write-count-requires c κs = search needs
 
 slice-aggregate-write-count-2 : tie.Need-slice-aggregate-write-count-2
 slice-aggregate-write-count-2 c = search needs
 
 write-count-requires-2 : tie.Need-write-count-requires-2
-unfolding ascii
-write-count-requires-2 c κs = room-for (ascii " frames " ++ decimal (c .before .before .before .before .before .before .before .before .before .args .states)) _ (behind _ _ (lines (c .before .before .before .before .before .before .before .before .before)) (c .before .before .before .before .write-count .ensures))
+write-count-requires-2 c κs = search needs
 
 slice-aggregate-write-bytes : tie.Need-slice-aggregate-write-bytes
 slice-aggregate-write-bytes c = search needs
@@ -37,11 +46,13 @@ write-bytes-requires : tie.Need-write-bytes-requires
 write-bytes-requires c κs = search needs
 
 write-frames-requires : tie.Need-write-frames-requires
-unfolding ascii
-write-frames-requires c κs = (c .before .before .before .before .before .before .before .before .before .before .before .before .before .before .before .before .before .before .pre .0, behind-bytes _ _ (behind _ _ (behind _ _ (lines (c .before .before .before .before .before .before .before .before .before .before .before .before .before .before .before .before .before .before)) (c .before .before .before .before .before .before .before .before .before .before .before .before .before .write-count .ensures)) (c .before .before .before .before .before .before .before .before .write-count2 .ensures)) (c .before .before .before .write-bytes .ensures) .room)
+write-frames-requires c κs = let written = c .before .before .before in (started written .pre .0, frames-left written .room)
 
 same-length : tie.Need-same-length
 same-length c = search needs
+
+returns : tie.Need-returns
+returns c = frames-left (c .before .before .before .before .before .before) .finish (c .before .before .write-frames .ensures)
 
 pub write-met-spec : {M : Type 1} → statement M
 write-met-spec =

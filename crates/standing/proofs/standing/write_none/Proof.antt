@@ -1,26 +1,17 @@
--- `write_none` meets its contract: the word with its number and the word behind are the pieces of the line, and each finds what is left when it is written.
-use mathlib.Core.Path.{refl}
-use mathlib.Core.List.{_++_}
-use Rattle.standing.specs.Text.{ascii, decimal, noneText}
-use Rattle.standing.proofs.Writing.{Left, all-left, room-for, behind, finish-bytes}
+-- `write_none` meets its contract: the word with its number and the word behind are the pieces of the line, and each is written where there is room for what is
+-- left.
+use Rattle.text.specs.Digits.{ascii}
+use Rattle.text.proofs.Writing.{whole, behind}
+use Rattle.standing.specs.Text.{noneText}
 use borrow.Author.Needs.{needs}
 use Rattle.standing.proofs.standing.write_none.Statement.{statement}
 use Rattle.standing.proofs.standing.write_none.Tie as tie
-
-line : (c : tie.Start) → Left (c .args .text .now) (c .args .at) (noneText (c .args .states)) (c .args .text .now) (c .args .at) (noneText (c .args .states))
-line c = all-left (c .args .text .now) (c .args .at) (noneText (c .args .states)) _ refl (c .pre)
-
--- what is written, piece by piece, is the text
-returns : tie.Need-returns
-unfolding ascii
-returns c = finish-bytes _ (behind _ _ (line (c .before .before .before .before .before .before .before .before .before .before .before)) (c .before .before .before .before .before .before .before .write-count .ensures)) (c .before .before .write-bytes .ensures)
 
 slice-aggregate-write-count : tie.Need-slice-aggregate-write-count
 slice-aggregate-write-count c = search needs
 
 write-count-requires : tie.Need-write-count-requires
-unfolding ascii
-write-count-requires c κs = room-for (ascii "none " ++ decimal (c .before .before .before .args .states)) _ (line (c .before .before .before))
+write-count-requires c κs = search needs
 
 slice-aggregate-write-bytes : tie.Need-slice-aggregate-write-bytes
 slice-aggregate-write-bytes c = search needs
@@ -30,6 +21,14 @@ write-bytes-requires c κs = search needs
 
 same-length : tie.Need-same-length
 same-length c = search needs
+
+returns : tie.Need-returns
+unfolding ascii
+returns c =
+    let none = c .before .before .before .before .before .before .before in
+    let start = none .before .before .before .before in
+    let line = whole (start .args .text .now) (start .args .at) (noneText (start .args .states)) (start .pre) in
+    behind _ _ line (none .write-count .ensures) .finish (c .before .before .write-bytes .ensures)
 
 pub write-none-spec : {M : Type 1} → statement M
 write-none-spec =

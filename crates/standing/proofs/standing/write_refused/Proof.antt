@@ -1,21 +1,11 @@
--- `write_refused` meets its contract: both words with their numbers, which are the refusal's number and place, and the line's end are the pieces of the line, and each finds what is
--- left when it is written.
-use mathlib.Core.Path.{refl}
-use mathlib.Core.List.{_++_}
-use Rattle.ground.specs.Refusals.{numberOf, placeOf}
-use Rattle.standing.specs.Text.{ascii, decimal, refusedText}
-use Rattle.standing.proofs.Writing.{Left, all-left, room-for, behind, finish-bytes}
+-- `write_refused` meets its contract: both words with their numbers, which are the refusal's number and place, and the line's end are the pieces of the line,
+-- and each is written where there is room for what is left.
+use Rattle.text.specs.Digits.{ascii}
+use Rattle.text.proofs.Writing.{whole, behind}
+use Rattle.standing.specs.Text.{refusedText}
 use borrow.Author.Needs.{needs}
 use Rattle.standing.proofs.standing.write_refused.Statement.{statement}
 use Rattle.standing.proofs.standing.write_refused.Tie as tie
-
-line : (c : tie.Start) → Left (c .args .text .now) 0 (refusedText (c .args .refusal)) (c .args .text .now) 0 (refusedText (c .args .refusal))
-line c = all-left (c .args .text .now) 0 (refusedText (c .args .refusal)) _ refl (c .pre)
-
--- what is written, piece by piece, is the text
-returns : tie.Need-returns
-unfolding ascii
-returns c = finish-bytes _ (behind _ _ (behind _ _ (line (c .before .before .before .before .before .before .before .before .before .before .before .before .before .before .before .before .before .before .before)) (rw (c .before .before .before .before .before .before .before .before .before .before .before .before .before .before .wide .ensures .0, c .before .before .before .before .before .before .before .before .before .before .before .before .before .before .before .number .ensures) at (c .before .before .before .before .before .before .before .before .before .before .before .before .before .write-count .ensures))) (rw (c .before .before .before .before .before .before .before .before .place .ensures) at (c .before .before .before .before .before .before .before .write-count2 .ensures))) (c .before .before .write-bytes .ensures)
 
 slice-aggregate-write-count : tie.Need-slice-aggregate-write-count
 slice-aggregate-write-count c = search needs
@@ -30,8 +20,7 @@ cast-write-count : tie.Need-cast-write-count
 cast-write-count c = search needs
 
 write-count-requires : tie.Need-write-count-requires
-unfolding ascii
-write-count-requires c κs = rw (c .wide .ensures .0, c .before .number .ensures) (room-for (ascii "refused " ++ decimal (numberOf (c .before .before .before .before .before .args .refusal))) _ (line (c .before .before .before .before .before)))
+write-count-requires c κs = search needs
 
 slice-aggregate-write-count-2 : tie.Need-slice-aggregate-write-count-2
 slice-aggregate-write-count-2 c = search needs
@@ -40,8 +29,7 @@ place-requires : tie.Need-place-requires
 place-requires c κs = search needs
 
 write-count-requires-2 : tie.Need-write-count-requires-2
-unfolding ascii
-write-count-requires-2 c κs = rw (c .place .ensures) (room-for (ascii " at " ++ decimal (placeOf (c .before .before .before .before .before .before .before .before .before .before .before .args .refusal))) _ (behind _ _ (line (c .before .before .before .before .before .before .before .before .before .before .before)) (rw (c .before .before .before .before .before .before .wide .ensures .0, c .before .before .before .before .before .before .before .number .ensures) at (c .before .before .before .before .before .write-count .ensures))))
+write-count-requires-2 c κs = search needs
 
 slice-aggregate-write-bytes : tie.Need-slice-aggregate-write-bytes
 slice-aggregate-write-bytes c = search needs
@@ -51,6 +39,18 @@ write-bytes-requires c κs = search needs
 
 same-length : tie.Need-same-length
 same-length c = search needs
+
+returns : tie.Need-returns
+unfolding ascii
+returns c =
+    let placed = c .before .before .before .before .before .before .before in
+    let refused = placed .before .before .before .before .before .before in
+    let numbered = refused .before in
+    let start = numbered .before .before .before .before .before in
+    let line = whole (start .args .text .now) 0 (refusedText (start .args .refusal)) (start .pre) in
+    let number = rw (numbered .wide .ensures .0, numbered .before .number .ensures) at (refused .write-count .ensures) in
+    let place = rw (placed .before .place .ensures) at (placed .write-count2 .ensures) in
+    behind _ _ (behind _ _ line number) place .finish (c .before .before .write-bytes .ensures)
 
 pub write-refused-spec : {M : Type 1} → statement M
 write-refused-spec =

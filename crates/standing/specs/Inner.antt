@@ -1,0 +1,2 @@
+-- What only inner functions cite.
+pub mod Within

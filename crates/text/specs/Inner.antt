@@ -1,0 +1,3 @@
+-- What only inner functions cite.
+pub mod Writing
+pub mod Before
