@@ -6,8 +6,8 @@
 #   make install        the header, the archive and the pkg-config file, below $(DESTDIR)$(PREFIX)
 #   make clean          removes the driver and what it wrote; the archive stays, as it takes minutes to prove
 #
-# The archive is made by Rattle's kit (rt), which proves the library first. An archive that is newer than the sources needs no kit, and
-# `make ARCHIVE=FILE` takes any other. Everything that is built goes below target/.
+# The archive is made by Rattle's kit (rt), which proves the library first. An archive that is newer than the sources
+# needs no kit, and `make ARCHIVE=FILE` takes any other. Everything that is built goes below target/.
 
 VERSION = 0.6.0
 PREFIX ?= /usr/local
@@ -32,8 +32,8 @@ $(DRIVER): examples/driver.c include/thistlecart.h $(ARCHIVE)
 	mkdir -p $(@D)
 	$(CC) -std=c99 $(WARNINGS) $(CPPFLAGS) $(CFLAGS) $(LDFLAGS) examples/driver.c $(ARCHIVE) -o $@
 
-# A lamp that clips is followed by a frame without clipping 2 to 4 frames later; examples/driver.c explains the rule byte by byte. The second
-# clip has to end with status 1.
+# A lamp that clips is followed by a frame without clipping 2 to 4 frames later; examples/driver.c explains the rule
+# byte by byte. The second clip has to end with status 1.
 example: $(DRIVER)
 	@echo '== the lamp stops clipping in time'
 	$(DRIVER) examples/lamp.rule examples/lamp.clip target/driver/lamp.code
@@ -49,7 +49,8 @@ install: $(ARCHIVE)
 	install -d '$(DESTDIR)$(PREFIX)/include' '$(DESTDIR)$(PREFIX)/lib/pkgconfig'
 	install -m 644 include/thistlecart.h '$(DESTDIR)$(PREFIX)/include/thistlecart.h'
 	install -m 644 $(ARCHIVE) '$(DESTDIR)$(PREFIX)/lib/libthistlecart.a'
-	sed -e 's|@PREFIX@|$(abspath $(PREFIX))|' -e 's|@VERSION@|$(VERSION)|' thistlecart.pc.in >'$(DESTDIR)$(PREFIX)/lib/pkgconfig/thistlecart.pc'
+	sed -e 's|@PREFIX@|$(abspath $(PREFIX))|' -e 's|@VERSION@|$(VERSION)|' thistlecart.pc.in \
+		>'$(DESTDIR)$(PREFIX)/lib/pkgconfig/thistlecart.pc'
 	chmod 644 '$(DESTDIR)$(PREFIX)/lib/pkgconfig/thistlecart.pc'
 
 clean:

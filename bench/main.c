@@ -1,13 +1,16 @@
-// Times the proved run beside the same run in C, and prints a table. Both get the same code and the same clip, by calls through a pointer, in rounds
-// by turns; the best round counts. The status is 1 if what they answer or write differs, else 2 if the library takes more than 1.3 times as long.
+// Times the proved run beside the same run in C, and prints a table. Both get the same code and the same clip, by calls
+// through a pointer, in rounds by turns; the best round counts. The status is 1 if what they answer or write differs,
+// else 2 if the library takes more than 1.3 times as long.
 #include <stdbool.h>
 #include <stdio.h>
 #include <string.h>
 #include <time.h>
 
+#include "limits.h"
 #include "machine.h"
 
-enum { FRAMES = 65535, ROUNDS = 30, MACHINES = 2 };
+// An instruction has a byte for its code and at most three numbers of two bytes.
+enum { ROUNDS = 30, MACHINES = 2, MOST_BYTES = 1 + 3 * 2 };
 
 static const double most = 1.3;
 
@@ -25,10 +28,10 @@ static unsigned below(unsigned count) { return (unsigned)(draw() % count); }
 
 // Code as an emitter writes it, with the numbers of the instructions whose values wait for an operator.
 static struct {
-    uint8_t bytes[4096];
+    uint8_t bytes[INSTRUCTIONS * MOST_BYTES];
     size_t length;
     unsigned instructions, reaches, distances;
-    unsigned waiting[320], values;
+    unsigned waiting[INSTRUCTIONS], values;
 } code;
 
 static void number(unsigned n) {
@@ -111,7 +114,7 @@ static void emit(unsigned size, unsigned reaches, unsigned distance) {
         else if (due)
             globally(a, w);
         else if (code.values < 2 || below(3) == 0)
-            push(flag(below(8)));
+            push(flag(below(FLAGS)));
         else if (below(2))
             both();
         else
@@ -153,8 +156,9 @@ static void bench(const uint8_t *clip) {
     for (int n = 0; n < FRAMES; n++)
         ones += out[1][n];
     double ratio = best[0] / best[1];
-    printf("%12u %6u %6u %9u %10.1f %6.1f %6.2f  %s%s\n", code.instructions, code.reaches, code.distances, ones, best[0] / FRAMES * 1e9,
-           best[1] / FRAMES * 1e9, ratio, same ? "same" : "DIFFERENT", ratio > most ? ", MISSED" : "");
+    printf("%12u %6u %6u %9u %10.1f %6.1f %6.2f  %s%s\n", code.instructions, code.reaches, code.distances, ones,
+           best[0] / FRAMES * 1e9, best[1] / FRAMES * 1e9, ratio, same ? "same" : "DIFFERENT",
+           ratio > most ? ", MISSED" : "");
     rows++;
     different += !same;
     missed += ratio > most;
@@ -163,11 +167,12 @@ static void bench(const uint8_t *clip) {
 int main(void) {
     static const struct {
         unsigned size, reaches, distance;
-    } codes[] = {{10, 1, 5}, {60, 6, 16}, {200, 16, 16}};
+    } codes[] = {{10, 1, 5}, {60, 6, 16}, {200, COUNTERS, DELAYS / COUNTERS}};
     static uint8_t clip[FRAMES];
     for (int n = 0; n < FRAMES; n++)
         clip[n] = (uint8_t)draw();
-    printf("run: %d frames, best of %d rounds, nanoseconds a frame; target: ratio at most %.1f\n", FRAMES, ROUNDS, most);
+    printf("run: %d frames, best of %d rounds, nanoseconds a frame; target: ratio at most %.1f\n", FRAMES, ROUNDS,
+           most);
     printf("instructions  REACH delays frames 1    library      C  ratio  answers\n");
     for (size_t k = 0; k < sizeof codes / sizeof codes[0]; k++) {
         emit(codes[k].size, codes[k].reaches, codes[k].distance);

@@ -1,13 +1,21 @@
-// The search in C, written for speed: states are packed into 64 bytes each, found again by an open-addressing hash table, and stepped by
-// bench/sequencer.h. By length, states in the order of their first clips, bytes 0 to 255, up to the first output 1.
+// The search in C, written for speed: states are packed into words, found again by an open-addressing hash table, and
+// stepped by bench/sequencer.h. By length, states in the order of their first clips, bytes 0 to 255, up to the first
+// output 1.
 #include <string.h>
 
 #include "search.h"
 #include "sequencer.h"
 
-enum { MOST_RECORDS = 65536, SLOTS = 4 * MOST_RECORDS, WORDS = 8, BYTES = 256 };
+// A word has so many bits, and the counters come before the delay bits.
+enum {
+    MOST_RECORDS = THISTLECART_MOST_RECORDS,
+    SLOTS = 4 * MOST_RECORDS,
+    BITS = 64,
+    COUNTER_WORDS = COUNTERS * (int)sizeof(uint16_t) * 8 / BITS,
+    WORDS = COUNTER_WORDS + DELAYS / BITS
+};
 
-// A state: all registers in eight words, the counters in the first four and the delay bits in the others.
+// A state: all registers, the counters in the first words and the delay bits in the others.
 typedef struct {
     uint64_t words[WORDS];
 } key;
@@ -34,7 +42,7 @@ static key pack(const registers *r, size_t delays) {
     for (size_t n = 0; n < delays; n += 8) {
         uint64_t eight;
         memcpy(&eight, &r->delays[n], sizeof eight);
-        k.words[WORDS / 2 + n / 64] |= eight * gather >> 56 << n % 64;
+        k.words[COUNTER_WORDS + n / BITS] |= eight * gather >> (BITS - 8) << n % BITS;
     }
     return k;
 }
@@ -69,7 +77,7 @@ static registers unpack(const key *k, size_t delays) {
     memset(&r, 0, sizeof r);
     memcpy(r.counters, k->words, sizeof r.counters);
     for (size_t n = 0; n < delays; n++)
-        r.delays[n] = k->words[WORDS / 2 + n / 64] >> n % 64 & 1;
+        r.delays[n] = k->words[COUNTER_WORDS + n / BITS] >> n % BITS & 1;
     return r;
 }
 

@@ -14,8 +14,9 @@ typedef struct {
     uint64_t trials;
 } search_answer;
 
-// Searches for the first clip on which code gives 1 at its first frame, and writes it to the witness buffer, which is long enough. The code is
-// emitted by the library, so it is accepted. Only one search runs at a time, as its tables are static.
+// Searches for the first clip on which code gives 1 at its first frame, and writes it to the witness buffer, which is
+// long enough. The code is emitted by the library, so it is accepted. Only one search runs at a time, as its tables are
+// static.
 search_answer machine_search(const uint8_t *code, size_t code_length, uint8_t *witness);
 
 #endif

@@ -1,5 +1,5 @@
-// The sequencer in C, written for speed: code is decoded once into an array of structs, and each frame walks it. bench/machine.c runs it over a
-// clip, bench/search.c searches with it.
+// The sequencer in C, written for speed: code is decoded once into an array of structs, and each frame walks it.
+// bench/machine.c runs it over a clip, bench/search.c searches with it.
 #ifndef SEQUENCER_H
 #define SEQUENCER_H
 
@@ -7,9 +7,9 @@
 #include <stddef.h>
 #include <stdint.h>
 
-enum { ONE = 1, FLAG, NAND, REACH, LATER };
+#include "limits.h"
 
-enum { INSTRUCTIONS = 320, COUNTERS = 16, DELAYS = 256, FRAMES = 65535 };
+enum { ONE = 1, FLAG, NAND, REACH, LATER };
 
 typedef struct {
     uint16_t code, i, j, w;
@@ -26,15 +26,15 @@ static inline uint64_t refused(unsigned number, size_t place) { return number | 
 // Reads a number and moves the place on. Answers 0, or the refusal's number.
 static inline unsigned number(const uint8_t *bytes, size_t length, size_t *at, uint16_t *value) {
     if (*at == length)
-        return 3;
+        return THISTLECART_CUT_SHORT;
     *value = bytes[(*at)++];
     if (*value < 128)
         return 0;
     if (*at == length)
-        return 3;
+        return THISTLECART_CUT_SHORT;
     uint8_t high = bytes[(*at)++];
     if (high == 0 || high > 127)
-        return 4;
+        return THISTLECART_NOT_SHORTEST;
     *value = (uint16_t)(*value - 128 + 128 * high);
     return 0;
 }
@@ -44,37 +44,38 @@ static inline uint64_t decode(const uint8_t *bytes, size_t length, instruction *
     static const unsigned numbers[] = {0, 0, 1, 2, 3, 2};
     size_t n = 0, at = 0, reaches = 0, distances = 0;
     if (length == 0)
-        return refused(1, 0);
+        return refused(THISTLECART_EMPTY, 0);
     while (at < length) {
         size_t place = at;
         uint8_t byte = bytes[at++];
         uint16_t v[3] = {0, 0, 0};
         if (byte < ONE || byte > LATER)
-            return refused(2, place);
+            return refused(THISTLECART_UNKNOWN_CODE, place);
         for (unsigned k = 0; k < numbers[byte]; k++) {
             unsigned wrong = number(bytes, length, &at, &v[k]);
             if (wrong)
                 return refused(wrong, place);
         }
-        if (byte == FLAG && v[0] > 7)
-            return refused(5, place);
+        if (byte == FLAG && v[0] >= FLAGS)
+            return refused(THISTLECART_FLAG_TOO_LARGE, place);
         if (byte >= NAND && (v[0] >= n || (byte != LATER && v[1] >= n)))
-            return refused(10, place);
-        if ((byte == REACH && v[2] > 255) || (byte == LATER && (v[1] == 0 || v[1] > 255)))
-            return refused(11, place);
+            return refused(THISTLECART_NOT_EARLIER, place);
+        if ((byte == REACH && v[2] > WIDTH) || (byte == LATER && (v[1] == 0 || v[1] > DISTANCE)))
+            return refused(THISTLECART_BAD_WIDTH, place);
         reaches += byte == REACH;
         distances += byte == LATER ? v[1] : 0;
         if (n == INSTRUCTIONS || reaches > COUNTERS || distances > DELAYS)
-            return refused(12, place);
+            return refused(THISTLECART_CODE_TOO_LARGE, place);
         code[n++] = (instruction){byte, v[0], v[1], v[2]};
     }
     *count = n;
     return 0;
 }
 
-// One frame through decoded code. A delay line is moved by a plain loop: most are short, and a call of memmove takes longer (bench/run and
-// bench/figures/build.rs keep gcc from turning the loop into the call).
-static inline bool step(const instruction *restrict code, size_t count, registers *restrict r, bool *restrict bits, uint8_t frame) {
+// One frame through decoded code. A delay line is moved by a plain loop: most are short, and a call of memmove takes
+// longer (bench/run and bench/figures/build.rs keep gcc from turning the loop into the call).
+static inline bool step(const instruction *restrict code, size_t count, registers *restrict r, bool *restrict bits,
+                        uint8_t frame) {
     uint16_t *counter = r->counters;
     bool *line = r->delays;
     for (size_t n = 0; n < count; n++) {

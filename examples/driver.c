@@ -42,19 +42,28 @@ enum status { PASSED, CLIP_FAILS, NEVER_MET, NEVER_BROKEN, REFUSED, TROUBLE };
 // many bytes are read, and the library refuses them as it would the whole file.
 enum { RULE_ROOM = 1024, CLIP_ROOM = THISTLECART_MOST_FRAMES + 1 };
 
+// A limit of the header as text.
+#define MOST(limit) TEXT(THISTLECART_MOST_##limit)
+#define TEXT(number) QUOTED(number)
+#define QUOTED(word) #word
+
 static const char *const sentences[] = {
     [THISTLECART_EMPTY] = "there are no bytes",
     [THISTLECART_UNKNOWN_CODE] = "the code byte is unknown",
     [THISTLECART_CUT_SHORT] = "the bytes end inside an item",
     [THISTLECART_NOT_SHORTEST] = "a number is not in its shortest form",
     [THISTLECART_FLAG_TOO_LARGE] = "the flag is above 7",
-    [THISTLECART_BAD_WINDOW] = "the lower bound is above the upper one, or that is above 255",
+    [THISTLECART_BAD_WINDOW] =
+        "the lower bound is above the upper one, or that is above " MOST(BOUND),
     [THISTLECART_TOO_FEW_OPERANDS] = "there are too few operands",
-    [THISTLECART_RULE_TOO_LARGE] = "there are over 64 items, 16 timed ones, or lower bounds of 256",
+    [THISTLECART_RULE_TOO_LARGE] = "there are over " MOST(ITEMS) " items, " MOST(TIMED)
+                                   " timed ones, or lower bounds of " MOST(LOWER),
     [THISTLECART_NOT_ONE_VALUE] = "not exactly one value is left at the end",
     [THISTLECART_NOT_EARLIER] = "an operand is not an earlier instruction",
-    [THISTLECART_BAD_WIDTH] = "the width is above 255, or the distance is not 1 to 255",
-    [THISTLECART_CODE_TOO_LARGE] = "there are over 320 instructions, 16 counters, or delays of 256",
+    [THISTLECART_BAD_WIDTH] =
+        "the width is above " MOST(BOUND) ", or the distance is not 1 to " MOST(BOUND),
+    [THISTLECART_CODE_TOO_LARGE] = "there are over " MOST(INSTRUCTIONS) " instructions, "
+                                   MOST(TIMED) " counters, or delays of " MOST(LOWER),
     [THISTLECART_BAD_CLIP] = "the clip has no frame, or more than 65,535",
     [THISTLECART_SHORT_WITNESS] = "the witness buffer is too short",
     [THISTLECART_NO_ROOM] = "the table has no room for all states",
@@ -109,8 +118,8 @@ static void print_bytes(const char *line, const uint8_t *bytes, size_t length) {
 }
 
 // Says whether any clip satisfies a rule, and shows the first one. If none does: status `never`.
-static enum status judge(const char *what, enum status never, const uint8_t *rule, size_t length,
-                         uint8_t *table) {
+static enum status find_clip(const char *what, enum status never, const uint8_t *rule,
+                             size_t length, uint8_t *table) {
     uint8_t witness[THISTLECART_WITNESS_LENGTH];
     const uint64_t word =
         thistlecart_search(rule, length, table, THISTLECART_TABLE_LENGTH, witness, sizeof witness);
@@ -130,18 +139,18 @@ static enum status judge(const char *what, enum status never, const uint8_t *rul
 }
 
 // Says whether some clip does not satisfy a rule: whether one satisfies its negation.
-static enum status judge_broken(const uint8_t *rule, size_t length, uint8_t *table) {
+static enum status find_breaking(const uint8_t *rule, size_t length, uint8_t *table) {
     uint8_t negation[THISTLECART_RULE_LENGTH];
     const uint64_t word = thistlecart_negate(rule, length, negation, sizeof negation);
     if (thistlecart_refusal(word) != 0) {
         return refused("can be broken: not judged, its negation is", word);
     }
-    return judge("broken", NEVER_BROKEN, negation, thistlecart_length(word), table);
+    return find_clip("broken", NEVER_BROKEN, negation, thistlecart_length(word), table);
 }
 
 // Runs a rule's code over a clip and shows the verdicts.
-static enum status judge_clip(const uint8_t *code, size_t code_length, const uint8_t *clip,
-                              size_t clip_length) {
+static enum status run_clip(const uint8_t *code, size_t code_length, const uint8_t *clip,
+                            size_t clip_length) {
     static uint8_t verdicts[CLIP_ROOM];
     const uint64_t word =
         thistlecart_run(code, code_length, clip, clip_length, verdicts, sizeof verdicts);
@@ -169,8 +178,8 @@ static enum status drive(char **files, uint8_t *table) {
     printf("rule: %zu bytes, %" PRIu64 " items, horizon %" PRIu64 "\n", rule_length,
            thistlecart_items(word), thistlecart_horizon(word));
 
-    const enum status met = judge("met", NEVER_MET, rule, rule_length, table);
-    const enum status broken = judge_broken(rule, rule_length, table);
+    const enum status met = find_clip("met", NEVER_MET, rule, rule_length, table);
+    const enum status broken = find_breaking(rule, rule_length, table);
 
     word = thistlecart_emit(rule, rule_length, code, sizeof code);
     if (thistlecart_refusal(word) != 0) {
@@ -181,8 +190,8 @@ static enum status drive(char **files, uint8_t *table) {
         return TROUBLE;
     }
     printf("code: %zu bytes\n", code_length);
-    const enum status judged = judge_clip(code, code_length, clip, clip_length);
-    return met != PASSED ? met : broken != PASSED ? broken : judged;
+    const enum status ran = run_clip(code, code_length, clip, clip_length);
+    return met != PASSED ? met : broken != PASSED ? broken : ran;
 }
 
 int main(int count, char **words) {

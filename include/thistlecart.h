@@ -81,20 +81,35 @@
 extern "C" {
 #endif
 
+// The limits of rules and of code: the most items of a rule, how many of them may be timed, what
+// their lower bounds may add up to, and the largest bound; and the most instructions of code. At
+// most so many instructions are REACH as items are timed, and distances add up to no more than
+// lower bounds do.
+#define THISTLECART_MOST_ITEMS 64
+#define THISTLECART_MOST_TIMED 16
+#define THISTLECART_MOST_LOWER 256
+#define THISTLECART_MOST_BOUND 255
+#define THISTLECART_MOST_INSTRUCTIONS 320
+
+// The most frames of a clip.
+#define THISTLECART_MOST_FRAMES 65535
+
 // Lengths in bytes that always suffice: for the witness buffer of a search (so it is never refused
 // by 14), and for an output buffer that takes code or a new rule (so it is never refused by 16).
-#define THISTLECART_WITNESS_LENGTH 4081
-#define THISTLECART_CODE_LENGTH 1152
-#define THISTLECART_RULE_LENGTH 176
+//
+// The largest horizon is that of timed items inside each other. An item has three instructions, of
+// five bytes, and a timed one two more, one of which has seven. An item has two bytes, and a timed
+// one three more.
+#define THISTLECART_WITNESS_LENGTH (THISTLECART_MOST_TIMED * THISTLECART_MOST_BOUND + 1)
+#define THISTLECART_CODE_LENGTH \
+    (5 * (3 * THISTLECART_MOST_ITEMS + 2 * THISTLECART_MOST_TIMED) + 2 * THISTLECART_MOST_TIMED)
+#define THISTLECART_RULE_LENGTH (2 * THISTLECART_MOST_ITEMS + 3 * THISTLECART_MOST_TIMED)
 
 // A table of the search: the bytes of a record, the most records that are used, and the length of a
 // table with so many.
 #define THISTLECART_RECORD_LENGTH 80
 #define THISTLECART_MOST_RECORDS 65536
 #define THISTLECART_TABLE_LENGTH (THISTLECART_MOST_RECORDS * THISTLECART_RECORD_LENGTH)
-
-// The most frames of a clip.
-#define THISTLECART_MOST_FRAMES 65535
 
 // The numbers of the refusals. The place of 2 to 8 and of 10 to 12 is the offset of the first byte
 // of the item (or instruction) at fault, that of 9 is the rule's length, that of the others is 0.

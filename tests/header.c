@@ -33,15 +33,15 @@ static uint8_t out[THISTLECART_MOST_FRAMES + 1];
 
 // The functions that read words.
 static void words(void) {
-    CHECK(thistlecart_items(UINT64_C(0xff0004000)) == 64);
-    CHECK(thistlecart_horizon(UINT64_C(0xff0004000)) == 4080);
+    CHECK(thistlecart_items(UINT64_C(0xff0004000)) == 0x40);
+    CHECK(thistlecart_horizon(UINT64_C(0xff0004000)) == 0xff0);
     CHECK(thistlecart_items(0x1800100) == 0x8001 && thistlecart_horizon(0x1800100) == 1);
     const uint64_t met = UINT64_C(0x800000018ff10100), none = UINT64_C(0x0001000000000000);
     CHECK(thistlecart_met(met) == 1 && thistlecart_met(none) == 0);
     CHECK(thistlecart_length(met) == 0x8ff1 && thistlecart_length(none) == 0);
     CHECK(thistlecart_states(met) == 0x80000001 && thistlecart_states(none) == 0x10000);
     CHECK(thistlecart_length(UINT64_C(0x100010100)) == 1);
-    CHECK(thistlecart_length(0x48000) == 1152 && thistlecart_length(0xffffff00) == 0xffffff);
+    CHECK(thistlecart_length(0x48000) == 0x480 && thistlecart_length(0xffffff00) == 0xffffff);
     for (uint64_t number = 1; number <= 0xff; number++) {
         for (uint64_t which = 0; which <= 3; which++) {
             const uint64_t word = which << 40 | UINT64_C(0x8000000100) | number;
@@ -57,30 +57,74 @@ static void words(void) {
     CHECK(thistlecart_place(full) == 0 && thistlecart_which(full) == 0);
 }
 
-// The lengths that always suffice, and the most of each thing.
+// Writes a number in its shortest form. Answers its bytes.
+static size_t put_number(uint8_t *bytes, size_t number) {
+    if (number < 128) {
+        bytes[0] = (uint8_t)number;
+        return 1;
+    }
+    bytes[0] = (uint8_t)(128 + number % 128);
+    bytes[1] = (uint8_t)(number / 128);
+    return 2;
+}
+
+// Loads true under so many timed items: eventually[a,b], the last one with a lower bound of `last`.
+static uint64_t load_timed(size_t items, size_t a, size_t last, size_t b) {
+    static uint8_t bytes[1 + 5 * (THISTLECART_MOST_TIMED + 1)];
+    size_t length = 0;
+    bytes[length++] = 0x10;
+    for (size_t item = 1; item <= items; item++) {
+        bytes[length++] = 0x32;
+        length += put_number(bytes + length, item == items ? last : a);
+        length += put_number(bytes + length, b);
+    }
+    return thistlecart_load(bytes, length);
+}
+
+// The limits: the most of each thing, and one more.
+static void limits(void) {
+    const size_t timed = THISTLECART_MOST_TIMED, bound = THISTLECART_MOST_BOUND;
+    const size_t lower = THISTLECART_MOST_LOWER / THISTLECART_MOST_TIMED;
+    const size_t last = THISTLECART_MOST_LOWER - (timed - 1) * lower;
+    REFUSED(0, load_timed(timed, 0, 0, bound));
+    REFUSED(THISTLECART_RULE_TOO_LARGE, load_timed(timed + 1, 0, 0, bound));
+    REFUSED(THISTLECART_BAD_WINDOW, load_timed(1, 0, 0, bound + 1));
+    REFUSED(0, load_timed(timed, lower, last, bound));
+    REFUSED(THISTLECART_RULE_TOO_LARGE, load_timed(timed, lower, last + 1, bound));
+    static uint8_t rule[THISTLECART_MOST_ITEMS + 1], code[THISTLECART_MOST_INSTRUCTIONS + 1];
+    memset(rule, 0x20, sizeof rule);
+    rule[0] = 0x10;
+    CHECK(thistlecart_items(thistlecart_load(rule, sizeof rule - 1)) == THISTLECART_MOST_ITEMS);
+    REFUSED(THISTLECART_RULE_TOO_LARGE, thistlecart_load(rule, sizeof rule));
+    memset(code, 0x01, sizeof code);
+    REFUSED(0, thistlecart_run(code, sizeof code - 1, clip, 1, out, 1));
+    REFUSED(THISTLECART_CODE_TOO_LARGE, thistlecart_run(code, sizeof code, clip, 1, out, 1));
+    REFUSED(0, thistlecart_run(code, 1, clip, THISTLECART_MOST_FRAMES, out, sizeof out));
+    REFUSED(THISTLECART_BAD_CLIP,
+            thistlecart_run(code, 1, clip, THISTLECART_MOST_FRAMES + 1, out, sizeof out));
+}
+
+// The lengths that always suffice, and those of a table.
 static void lengths(void) {
-    // Flag 0, and sixteen times eventually[0,255] of it: a horizon of 4,080.
-    uint8_t far[2 + 16 * 4] = {0x12, 0x00};
+    // Flag 0, and as often as may be eventually[0,255] of it: the largest horizon.
     const uint8_t window[] = {0x32, 0x00, 0xff, 0x01};
+    uint8_t far[2 + THISTLECART_MOST_TIMED * sizeof window] = {0x12, 0x00};
     for (size_t i = 2; i < sizeof far; i += sizeof window) {
         memcpy(far + i, window, sizeof window);
     }
     CHECK(thistlecart_horizon(thistlecart_load(far, sizeof far)) == THISTLECART_WITNESS_LENGTH - 1);
-    REFUSED(THISTLECART_SHORT_WITNESS, thistlecart_search(far, sizeof far, table, sizeof table,
-                                                          witness, sizeof witness - 1));
+    REFUSED(THISTLECART_SHORT_WITNESS,
+            thistlecart_search(far, sizeof far, table, sizeof table, witness, sizeof witness - 1));
     REFUSED(0, thistlecart_search(far, sizeof far, table, sizeof table, witness, sizeof witness));
     const uint8_t yes[] = {0x10};
     REFUSED(THISTLECART_NO_ROOM,
             thistlecart_search(yes, 1, table, THISTLECART_RECORD_LENGTH - 1, witness, 1));
-    CHECK(thistlecart_met(
-        thistlecart_search(yes, 1, table, THISTLECART_RECORD_LENGTH, witness, 1)));
+    const uint64_t met = thistlecart_search(yes, 1, table, THISTLECART_RECORD_LENGTH, witness, 1);
+    CHECK(thistlecart_met(met));
     uint8_t code[THISTLECART_CODE_LENGTH];
     CHECK(thistlecart_length(thistlecart_emit(far, sizeof far, code, sizeof code)) > 0);
     const uint64_t emitted = thistlecart_emit(yes, 1, code, sizeof code);
     CHECK(thistlecart_length(emitted) == 1 && code[0] == 0x01);
-    CHECK(thistlecart_run(code, 1, clip, THISTLECART_MOST_FRAMES, out, sizeof out) == 0);
-    REFUSED(THISTLECART_BAD_CLIP,
-            thistlecart_run(code, 1, clip, THISTLECART_MOST_FRAMES + 1, out, sizeof out));
 }
 
 // The refusals of rules and of code by name, but for those that other checks name.
@@ -102,24 +146,26 @@ static void names(void) {
 
 // The makers, and which bytes they refuse.
 static void makers(void) {
-    uint8_t full[64] = {0x10}, rule[THISTLECART_RULE_LENGTH];
+    enum { MOST = THISTLECART_MOST_ITEMS };
+    uint8_t full[MOST] = {0x10}, rule[THISTLECART_RULE_LENGTH];
     memset(full + 1, 0x20, sizeof full - 1);
     const uint8_t bad[] = {0x12, 0x08};
     REFUSED_IN(THISTLECART_NEW, THISTLECART_RULE_TOO_LARGE,
-               thistlecart_negate(full, 64, rule, sizeof rule));
+               thistlecart_negate(full, MOST, rule, sizeof rule));
     REFUSED_IN(THISTLECART_FIRST, THISTLECART_FLAG_TOO_LARGE,
                thistlecart_next(bad, 2, rule, sizeof rule));
     REFUSED_IN(THISTLECART_SECOND, THISTLECART_FLAG_TOO_LARGE,
-               thistlecart_both(full, 64, bad, 2, rule, sizeof rule));
+               thistlecart_both(full, MOST, bad, 2, rule, sizeof rule));
     REFUSED_IN(THISTLECART_NEW, THISTLECART_SHORT_OUTPUT,
                thistlecart_either(full, 1, full, 1, rule, 2));
-    CHECK(thistlecart_place(thistlecart_negate(full, 64, rule, sizeof rule)) == 64);
-    CHECK(thistlecart_length(thistlecart_negate(full, 63, rule, sizeof rule)) == 64);
-    CHECK(thistlecart_items(thistlecart_load(rule, 64)) == 64);
+    CHECK(thistlecart_place(thistlecart_negate(full, MOST, rule, sizeof rule)) == MOST);
+    CHECK(thistlecart_length(thistlecart_negate(full, MOST - 1, rule, sizeof rule)) == MOST);
+    CHECK(thistlecart_items(thistlecart_load(rule, MOST)) == MOST);
 }
 
 int main(void) {
     words();
+    limits();
     lengths();
     names();
     makers();

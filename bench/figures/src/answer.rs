@@ -1,7 +1,8 @@
 //! What a search answers, whichever program it is asked of.
 
 use crate::c_search::CAnswer;
-use second::rule::Refusal;
+use archive::word;
+use second::refusal::Refusal;
 use second::search::Answer as SecondAnswer;
 
 #[derive(Clone, Debug, PartialEq, Eq)]
@@ -17,23 +18,16 @@ pub enum Answer {
 /// The refusal for a table with too few records.
 pub const NO_ROOM: u8 = 15;
 
-/// The number in so many bits of a word, from one on.
-fn bits(word: u64, from: u32, count: u32) -> usize {
-    (word >> from & ((1 << count) - 1)) as usize
-}
-
-/// The answer that the library's word says, with the witness buffer after the call:
-/// the refusal in bits 0 to 7, met in bit 8, the length in bits 16 to 31, the states
-/// in bits 32 and up.
+/// The answer that the library's word says, with the witness buffer after the call.
 pub fn of_library(word: u64, witness: &[u8]) -> Answer {
-    let states = bits(word, 32, 32);
-    match (bits(word, 0, 8), bits(word, 8, 1)) {
-        (0, 0) => Answer::None { states },
-        (0, _) => Answer::Met {
-            clip: witness[..bits(word, 16, 16)].to_vec(),
+    let states = word::states(word);
+    match (word::refusal(word), word::met(word)) {
+        (0, false) => Answer::None { states },
+        (0, true) => Answer::Met {
+            clip: witness[..word::length(word)].to_vec(),
             states,
         },
-        (number, _) => Answer::Refused(number as u8),
+        (number, _) => Answer::Refused(number),
     }
 }
 

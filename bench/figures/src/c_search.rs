@@ -1,6 +1,6 @@
 //! The search of bench/search.c, over slices.
 
-use crate::archive::WITNESS;
+use archive::header::WITNESS_LENGTH;
 
 /// What the search in C comes to, as bench/search.h has it.
 #[repr(C)]
@@ -17,7 +17,7 @@ extern "C" {
 }
 
 /// Searches with code that the library emitted.
-pub fn search(code: &[u8], witness: &mut [u8; WITNESS]) -> CAnswer {
+pub fn search(code: &[u8], witness: &mut [u8; WITNESS_LENGTH]) -> CAnswer {
     // The witness buffer is long enough for any rule. Only one thread calls this.
     unsafe { machine_search(code.as_ptr(), code.len(), witness.as_mut_ptr()) }
 }

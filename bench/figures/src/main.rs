@@ -10,7 +10,6 @@
 //! nothing is compared; a panic gives 101.
 
 mod answer;
-mod archive;
 mod c_search;
 mod entry_table;
 mod rules;

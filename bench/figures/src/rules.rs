@@ -1,7 +1,7 @@
 //! The rules for the search, read from bench/rules.txt, which says what stands in a
 //! line.
 
-use second::stream::bytes_of_text;
+use second::text::bytes_of_words;
 
 const TEXT: &str = include_str!("../../rules.txt");
 
@@ -50,6 +50,6 @@ fn rule_of(line: &'static str) -> Option<Rule> {
             _ => return None,
         },
         states: states.parse().ok()?,
-        bytes: bytes_of_text(bytes).ok()?,
+        bytes: bytes_of_words(bytes).ok()?,
     })
 }

@@ -2,18 +2,19 @@
 //! search in C, on the same rules. The answers are compared whole.
 
 use crate::answer::{of_c, of_library, of_second, Answer};
-use crate::archive::{self, CODE, TABLE, WITNESS};
 use crate::c_search;
 use crate::rules::{rules, Expected, Rule};
 use crate::turns::{by_turns, Rounds};
 use crate::verdict::Verdict;
+use archive::header::{CODE_LENGTH, MOST_RECORDS, TABLE_LENGTH, WITNESS_LENGTH};
+use archive::word;
+use second::limits::{BYTES, LARGEST_FLAG};
 use second::search::search;
 
-/// A state is tried with so many frame bytes. The library passes over those that
-/// differ from a smaller one only in flags that the rule does not name; they count.
-const BYTES: usize = 256;
-/// All flags.
-const FLAGS: usize = 8;
+/// All flags. A state is tried with as many frame bytes as there are. The library
+/// passes over those that differ from a smaller one only in flags that the rule does
+/// not name; they count.
+const FLAGS: usize = LARGEST_FLAG + 1;
 /// With all eight flags named the library takes at most so many times as long as the
 /// second program.
 const AT_MOST: f64 = 1.3;
@@ -21,7 +22,7 @@ const AT_MOST: f64 = 1.3;
 const AHEAD: f64 = 0.5;
 /// A trial takes at most so many times as long with 60,000 states as with 8,000.
 const GROWTH: f64 = 1.3;
-/// A table of 65,536 records is filled in at most so many seconds.
+/// A table of the most records is filled in at most so many seconds.
 const FILLED: f64 = 30.0;
 /// Long searches are done twice, short ones more often.
 const ROUNDS: Rounds = Rounds {
@@ -55,15 +56,15 @@ impl Row {
     }
 }
 
-/// Times the three programs on one rule. All three get a table or room for 65,536
+/// Times the three programs on one rule. All three get a table or room for the most
 /// records; the table is full of other bytes at first.
 fn timed(rule: Rule) -> Row {
     let bytes = &rule.bytes[..];
-    let mut code = [0; CODE];
-    let length = (archive::emit(bytes, &mut code) >> 8) as usize;
-    let mut tables = [vec![0xff; TABLE], vec![0xff; TABLE]];
+    let mut code = [0; CODE_LENGTH];
+    let length = word::length(archive::emit(bytes, &mut code));
+    let mut tables = [vec![0xff; TABLE_LENGTH], vec![0xff; TABLE_LENGTH]];
     let [library_table, second_table] = &mut tables;
-    let mut witnesses = [[0; WITNESS]; 3];
+    let mut witnesses = [[0; WITNESS_LENGTH]; 3];
     let [library_witness, second_witness, c_witness] = &mut witnesses;
     let mut trials = 0;
     let rounds = match rule.kind {
@@ -98,8 +99,10 @@ fn timed(rule: Rule) -> Row {
 }
 
 /// The head of a table of rows.
-const HEAD: &str = "                                          seconds                  nanoseconds a trial   library over
-flags kind      verdict length states   library   second       C  library second      C    second      C  answers";
+const HEAD: &str = concat!(
+    "                                          seconds                  nanoseconds a trial   library over\n",
+    "flags kind      verdict length states   library   second       C  library second      C    second      C  answers"
+);
 
 /// Times a rule and prints its row.
 fn row(rule: Rule, verdict: &mut Verdict) -> Row {
@@ -122,7 +125,8 @@ fn row(rule: Rule, verdict: &mut Verdict) -> Row {
         missed.push(verdict.target(library, FILLED));
     }
     println!(
-        "{flags:5} {kind:9} {:7} {:6} {:6} {library:9.4} {second:8.4} {c:7.4} {:8.1} {:6.1} {:6.1} {ratio:9.3} {:6.2}  {answers}{}",
+        "{flags:5} {kind:9} {:7} {:6} {:6} {library:9.4} {second:8.4} {c:7.4} \
+         {:8.1} {:6.1} {:6.1} {ratio:9.3} {:6.2}  {answers}{}",
         row.answer.word(),
         row.answer.length(),
         row.answer.states(),
@@ -143,7 +147,9 @@ fn same_family(first: &Row, second: &Row) -> bool {
 
 /// Prints the growth of each family that has all its rows.
 fn print_growth(rows: &[Row], verdict: &mut Verdict) {
-    println!("growth of the search: nanoseconds a trial with about 60,000 states over those with about 8,000");
+    println!(
+        "growth of the search: nanoseconds a trial with about 60,000 states over those with about 8,000"
+    );
     println!("target: at most {GROWTH} for the library");
     println!("flags kind      verdict   library   second       C");
     for family in rows.chunk_by(same_family) {
@@ -172,8 +178,14 @@ pub fn print(most: usize) -> Verdict {
         "search: best of {} to {} rounds; a trial is a state with one of {BYTES} bytes in front",
         ROUNDS.least, ROUNDS.most
     );
-    println!("the second program keeps states in a HashSet; C packs them and has its own hash table; both try every byte");
-    println!("targets: library over second at most {AT_MOST} with all eight flags named, at most {AHEAD} with fewer");
+    println!(
+        "the second program keeps states in a HashSet; C packs them and has its own hash table; \
+         both try every byte"
+    );
+    println!(
+        "targets: library over second at most {AT_MOST} with all eight flags named, \
+         at most {AHEAD} with fewer"
+    );
     println!("{HEAD}");
     let rows: Vec<Row> = families
         .into_iter()
@@ -182,8 +194,14 @@ pub fn print(most: usize) -> Verdict {
     println!();
     print_growth(&rows, &mut verdict);
     println!();
-    println!("all 65,536 records filled; targets: at most {FILLED} seconds for the library, and the ratios as above");
-    println!("{LONGEST}: of each 32 delay bits only the highest differ, which is hard for simple hashes; one round");
+    println!(
+        "all {MOST_RECORDS} records filled; targets: at most {FILLED} seconds for the library, \
+         and the ratios as above"
+    );
+    println!(
+        "{LONGEST}: of each 32 delay bits only the highest differ, \
+         which is hard for simple hashes; one round"
+    );
     println!("{HEAD}");
     for rule in full {
         row(rule, &mut verdict);

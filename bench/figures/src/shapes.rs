@@ -1,9 +1,10 @@
 //! Random rules for the solver's table: several shapes, each with windows of several
 //! sizes. A seed fixes them all.
 
+use second::formula::{Formula, Window};
 use second::meaning::holds;
-use second::random::{formula, Budget, Random};
-use second::rule::{Formula, Window};
+use second::random::rule::{formula, Budget};
+use second::random::Random;
 
 /// The rules are those of this seed.
 const SEED: u64 = 2;

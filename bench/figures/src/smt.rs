@@ -21,7 +21,8 @@
 //!   true. So it is here: `fol(true, j, len)` is j < len, and j < i < len.
 //! - `exists len` of the one assertion is a constant here, which is the same.
 
-use second::rule::{Formula, Window};
+use second::formula::{Formula, Window};
+use second::limits::LARGEST_FLAG;
 use std::fmt::Write;
 
 /// A formula by not, and, until.
@@ -123,7 +124,7 @@ pub fn script(f: &Formula, comment: &str) -> String {
         functions: 0,
     };
     script.line(&format!("; {comment}"));
-    for k in 0..8 {
+    for k in 0..=LARGEST_FLAG {
         script.line(&format!("(declare-fun p_{k} (Int) Bool)"));
     }
     script.line("(declare-fun len () Int)");

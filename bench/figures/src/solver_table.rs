@@ -2,13 +2,13 @@
 //! same random rules.
 
 use crate::answer::{of_library, Answer, NO_ROOM};
-use crate::archive::{self, TABLE, WITNESS};
 use crate::shapes::{samples, Sample};
 use crate::smt::script;
 use crate::turns::{by_turns, Rounds, Timed};
 use crate::verdict::Verdict;
 use crate::z3::{self, Said, LIMIT, MEMORY};
-use second::write::write;
+use archive::header::{TABLE_LENGTH, WITNESS_LENGTH};
+use second::formula::write;
 use std::fs;
 use std::io;
 use std::path::Path;
@@ -33,7 +33,7 @@ struct Counts {
 
 /// The search of the library.
 fn searched(rule: &[u8], table: &mut [u8]) -> Timed<Answer, 1> {
-    let mut witness = [0; WITNESS];
+    let mut witness = [0; WITNESS_LENGTH];
     by_turns(
         &ROUNDS,
         [&mut || {
@@ -78,9 +78,15 @@ pub fn print(directory: &Path) -> io::Result<Verdict> {
     };
     fs::create_dir_all(directory)?;
     let (_, floor) = z3::decide("(check-sat)\n", &directory.join("floor.smt2"))?;
-    println!("{version}, from its start to its end, at most {LIMIT} seconds and {MEMORY} megabytes a rule; on an empty script it takes {:.1} milliseconds", 1e3 * floor);
-    println!("rule shape     windows items  library   states milliseconds   z3       milliseconds  verdicts");
-    let mut table = vec![0; TABLE];
+    println!(
+        "{version}, from its start to its end, at most {LIMIT} seconds and {MEMORY} megabytes a rule; \
+         on an empty script it takes {:.1} milliseconds",
+        1e3 * floor
+    );
+    println!(
+        "rule shape     windows items  library   states milliseconds   z3       milliseconds  verdicts"
+    );
+    let mut table = vec![0; TABLE_LENGTH];
     let mut counts = Counts::default();
     let (mut ours, mut theirs) = (Vec::new(), Vec::new());
     for (number, sample) in samples().iter().enumerate() {
@@ -118,8 +124,14 @@ pub fn print(directory: &Path) -> io::Result<Verdict> {
         median(&mut theirs)
     );
     println!(
-        "{} agree, {} differ; without an answer: {} times the library had no room, {} times z3 timed out, {} times it ran out of memory, {} times it did not know",
-        counts.agree, counts.differ, counts.no_room, counts.timed_out, counts.out_of_memory, counts.unknown
+        "{} agree, {} differ; without an answer: {} times the library had no room, \
+         {} times z3 timed out, {} times it ran out of memory, {} times it did not know",
+        counts.agree,
+        counts.differ,
+        counts.no_room,
+        counts.timed_out,
+        counts.out_of_memory,
+        counts.unknown
     );
     Ok(verdict)
 }

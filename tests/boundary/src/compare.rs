@@ -1,114 +1,138 @@
-//! The comparison: the library and the second program answer every call of the
-//! lists of a seed. The whole word is the same, and so is every byte of every
-//! buffer after the call, of those that are only read and of the guards too.
+//! The comparison: the library and the second program answer every case of the lists
+//! of a seed. Of a call the whole word is the same, and so is every byte of every
+//! buffer after it, of those that are only read and of the guards too; of a program
+//! the line that it prints.
 
-use crate::call::{of_case, of_maker, of_rule, of_search, of_twice, Before, Call, Outcome};
+use crate::call::{lent, Call, Outcome};
+use crate::entry::ENTRIES;
 use crate::lent::{Layout, Lent};
-use second::case::{words_of_bytes, Case};
-use second::cases::{parts, Part};
-use second::emitter_cases::{emit_cases, judge_cases};
-use second::maker_case::MakerCase;
-use second::maker_cases::maker_cases;
+use second::entry::Case;
 use second::random::Random;
-use second::search_case::SearchCase;
-use second::search_cases::{edge_cases, large_cases, random_cases};
-use second::sequencer_cases::{load_cases, run_cases};
+use second::text::words_of_bytes;
 use std::iter;
 
-/// A list: its kind, how many calls it has at least, and its calls of a seed.
-type List = (&'static str, usize, fn(u64) -> Vec<Call>);
+/// A list of cases.
+pub struct List {
+    pub name: &'static str,
+    /// It has so many cases at least, about a fifth below those of seed 1.
+    pub least: usize,
+    /// Whether it takes long, to answer or to make, or is answered by a program. It is
+    /// left out where only a share is taken: under valgrind one large search takes
+    /// longer than all the others, and a program is another process.
+    pub long: bool,
+    /// Compares its cases of a seed.
+    pub compare: fn(&List, u64, &mut Comparison),
+}
 
-/// The lists. The least numbers are about a fifth below those of seed 1.
-const LISTS: [List; 8] = [
-    ("load", 340_000, |seed| of_rules(parts(seed))),
-    ("emit", 43_000, |seed| of_cases(emit_cases(seed))),
-    ("code", 89_000, |seed| of_cases(load_cases(seed))),
-    ("run", 9_600, |seed| of_cases(run_cases(seed))),
-    ("judge", 26_000, |seed| of_cases(judge_cases(seed))),
-    ("make", 30_000, |seed| of_makers(maker_cases(seed))),
-    ("make twice", 16_000, |seed| of_twices(maker_cases(seed))),
-    ("search", 3_500, |seed| of_searches(edge_cases(seed))),
-];
-
-/// The lists that take long, to answer or to make. They are left out where only a
-/// share is taken: under valgrind one large search takes longer than all the others.
-const LONG: [List; 2] = [
-    ("large search", 60, |_| of_searches(large_cases())),
-    ("random search", 8_000, |seed| {
-        of_searches(random_cases(seed))
-    }),
-];
-
-/// All lists of a seed together have so many calls at least.
+/// All lists of a seed together have so many cases at least.
 const LEAST: usize = 100_000;
 /// So many differences are shown.
 const SHOWN: usize = 5;
-/// Of bytes that are read so many characters are shown.
+/// Of a line so many characters are shown.
 const CHARACTERS: usize = 300;
 /// Of a buffer that differs so many bytes are shown.
 const BYTES: usize = 24;
 
-fn of_rules(parts: Vec<Part>) -> Vec<Call> {
-    let rules = parts.into_iter().flat_map(|part| part.rules);
-    rules.map(of_rule).collect()
-}
-
-fn of_cases(cases: Vec<Case>) -> Vec<Call> {
-    cases.into_iter().filter_map(of_case).collect()
-}
-
-fn of_makers(cases: Vec<MakerCase>) -> Vec<Call> {
-    cases.into_iter().map(of_maker).collect()
-}
-
-fn of_twices(cases: Vec<MakerCase>) -> Vec<Call> {
-    cases.into_iter().filter_map(of_twice).collect()
-}
-
-fn of_searches(cases: Vec<SearchCase>) -> Vec<Call> {
-    cases.into_iter().map(of_search).collect()
-}
-
-/// Compares all calls of a seed, or one in `share`, and writes how many there are
-/// of each kind. Answers whether there is no difference, and there are enough in
-/// each list and in all.
+/// Compares all cases of a seed, or one in `share`, and writes how many there are in
+/// each list. Answers whether there is no difference, and there are enough in each list
+/// and in all.
 pub fn compare(seed: u64, share: usize) -> bool {
-    let mut total = 0;
-    let mut differences = 0;
-    let mut enough = true;
-    let long = (share == 1).then_some(LONG).into_iter().flatten();
-    for (kind, least, list) in LISTS.into_iter().chain(long) {
-        let calls = list(seed);
-        let taken = taken(seed, share, calls.len());
-        println!("{kind}: {} cases", taken.len());
-        if let Some(least) = missed(taken.len(), least, share) {
-            println!("seed {seed}, {kind}: fewer than {least} cases");
-            enough = false;
-        }
-        total += taken.len();
+    let mut all = Comparison {
+        seed,
+        share,
+        total: 0,
+        differences: 0,
+        enough: true,
+    };
+    let lists = ENTRIES.iter().flat_map(|entry| entry.lists);
+    for list in lists.filter(|list| share == 1 || !list.long) {
+        (list.compare)(list, seed, &mut all);
+    }
+    println!(
+        "seed {seed}: {} cases, {} differences",
+        all.total, all.differences
+    );
+    all.has(all.total, LEAST, "all lists");
+    all.enough && all.differences == 0
+}
+
+/// What is compared, and what came of it so far.
+pub struct Comparison {
+    seed: u64,
+    share: usize,
+    total: usize,
+    differences: usize,
+    enough: bool,
+}
+
+impl Comparison {
+    /// Compares calls.
+    pub fn calls<const BUFFERS: usize>(&mut self, list: &List, calls: Vec<impl Call<BUFFERS>>) {
+        let taken = taken(self.seed, self.share, calls.len());
+        self.count(list, taken.len());
         for number in taken {
             let call = &calls[number];
-            let Some((second, library)) = difference(call, number, share) else {
-                continue;
-            };
-            differences += 1;
-            if differences <= SHOWN {
-                println!("seed {seed}, {kind}, case {}:", number + 1);
-                println!("  {}", words_of_call(call));
-                println!("  second program: {}", words_of_outcome(&second, &library));
-                println!("  library: {}", words_of_outcome(&library, &second));
+            if let Some((second, library)) = difference(call, number, self.share) {
+                let words = words_of_outcome(&second, &library);
+                let other = words_of_outcome(&library, &second);
+                self.differ(list, number, &call.words(), &words, &other);
             }
         }
     }
-    println!("seed {seed}: {total} cases, {differences} differences");
-    if let Some(least) = missed(total, LEAST, share) {
-        println!("seed {seed}: fewer than {least} cases");
-        enough = false;
+
+    /// Compares all cases of a list by the lines that a program answers.
+    pub fn lines<C: Case>(
+        &mut self,
+        list: &List,
+        cases: Vec<C>,
+        answers: impl Fn(&[C]) -> Result<Vec<String>, String>,
+    ) {
+        self.count(list, cases.len());
+        let mut lines = answers(&cases)
+            .unwrap_or_else(|words| vec![words])
+            .into_iter();
+        for (number, case) in cases.iter().enumerate() {
+            let second = case.answer();
+            let library = lines.next().unwrap_or_else(|| "no line".to_string());
+            if second != library {
+                let from = same_characters(&second, &library);
+                let [second, library] = [second, library].map(|line| words_from(&line, from));
+                self.differ(list, number, &case.line(), &second, &library);
+            }
+        }
+        if lines.next().is_some() {
+            self.differ(list, cases.len(), "no case", "no line", "more lines");
+        }
     }
-    enough && differences == 0
+
+    /// Counts the cases of a list.
+    fn count(&mut self, list: &List, cases: usize) {
+        println!("{}: {cases} cases", list.name);
+        self.total += cases;
+        self.has(cases, list.least, list.name);
+    }
+
+    /// Sees to it that there are enough cases.
+    fn has(&mut self, cases: usize, least: usize, name: &str) {
+        if let Some(least) = missed(cases, least, self.share) {
+            println!("seed {}, {name}: fewer than {least} cases", self.seed);
+            self.enough = false;
+        }
+    }
+
+    /// Counts a difference, and shows it.
+    fn differ(&mut self, list: &List, number: usize, case: &str, second: &str, library: &str) {
+        self.differences += 1;
+        if self.differences <= SHOWN {
+            println!("seed {}, {}, case {}:", self.seed, list.name, number + 1);
+            println!("  {}", case.chars().take(CHARACTERS).collect::<String>());
+            println!("  second program: {second}");
+            println!("  library: {library}");
+        }
+    }
 }
 
-/// The number of calls that there should be at least, if fewer are taken: the least
+/// The number of cases that there should be at least, if fewer are taken: the least
 /// number where all are taken, and of any share one.
 fn missed(taken: usize, least: usize, share: usize) -> Option<usize> {
     let least = if share == 1 { least } else { 1 };
@@ -125,30 +149,33 @@ fn taken(seed: u64, share: usize, count: usize) -> Vec<usize> {
 
 /// The two outcomes of a call, if they differ. A share of the calls is for
 /// valgrind, which sees more on bare buffers; so there each is made on such too.
-fn difference(call: &Call, number: usize, share: usize) -> Option<(Outcome, Outcome)> {
+fn difference<const BUFFERS: usize>(
+    call: &impl Call<BUFFERS>,
+    number: usize,
+    share: usize,
+) -> Option<(Outcome<BUFFERS>, Outcome<BUFFERS>)> {
     let bare = (share > 1).then_some(Lent::bare as Layout);
     iter::once(Lent::new as Layout).chain(bare).find_map(|lay| {
-        let lent = call.lent(number, lay);
-        let second = call.by_second(lent.clone());
-        let library = call.by_library(lent);
+        let mut buffers = lent(call, number, lay);
+        let mut others = buffers.clone();
+        let second = Outcome {
+            word: call.by_second(&mut others),
+            buffers: others,
+        };
+        let library = Outcome {
+            word: call.by_library(&mut buffers),
+            buffers,
+        };
         (library != second).then_some((second, library))
     })
 }
 
-/// The function, and what each buffer holds before.
-fn words_of_call(call: &Call) -> String {
-    let words_of_buffer = |before: &Before| match before {
-        Before::Bytes(bytes) => words_of_bytes(bytes).chars().take(CHARACTERS).collect(),
-        Before::Pattern(length) => format!("{length} bytes"),
-        Before::Full(byte, length) => format!("{length} bytes {byte:02x}"),
-    };
-    let buffers: Vec<String> = call.buffers.iter().map(words_of_buffer).collect();
-    format!("{:?} {}", call.entry, buffers.join(" | "))
-}
-
 /// The word, and of each buffer that differs from that of another outcome its
 /// length and some bytes from the first other one on.
-fn words_of_outcome(outcome: &Outcome, other: &Outcome) -> String {
+fn words_of_outcome<const BUFFERS: usize>(
+    outcome: &Outcome<BUFFERS>,
+    other: &Outcome<BUFFERS>,
+) -> String {
     let mut words = format!("word {:016x}", outcome.word);
     for (k, (lent, other)) in outcome.buffers.iter().zip(&other.buffers).enumerate() {
         if lent != other {
@@ -160,9 +187,23 @@ fn words_of_outcome(outcome: &Outcome, other: &Outcome) -> String {
     words
 }
 
+/// How many characters two lines have in common at their start.
+fn same_characters(first: &str, second: &str) -> usize {
+    let both = first.chars().zip(second.chars());
+    both.take_while(|(first, second)| first == second).count()
+}
+
+/// Some characters of a line, from a little before a place on.
+fn words_from(line: &str, place: usize) -> String {
+    let start = place.saturating_sub(CHARACTERS / 3);
+    let some: String = line.chars().skip(start).take(CHARACTERS).collect();
+    format!("from character {start}: {some}")
+}
+
 #[cfg(test)]
 mod tests {
     use super::*;
+    use second::load::case::Load;
 
     #[test]
     fn one_out_of_each_share_is_taken() {
@@ -190,5 +231,39 @@ mod tests {
     #[test]
     fn a_share_that_takes_nothing_of_a_list_fails() {
         assert!(!compare(1, usize::MAX));
+    }
+
+    /// The differences and whether there are enough cases, where a program answers
+    /// three rules by these lines.
+    fn compared(least: usize, lines: Result<Vec<String>, String>) -> (usize, bool) {
+        let list = List {
+            name: "three",
+            least,
+            long: true,
+            compare: |_, _, _| {},
+        };
+        let mut all = Comparison {
+            seed: 1,
+            share: 1,
+            total: 0,
+            differences: 0,
+            enough: true,
+        };
+        let rules = [vec![0x10], vec![], vec![0x12, 0x08]];
+        let cases: Vec<Load> = rules.map(|rule| Load { rule }).into();
+        all.lines(&list, cases, |_| lines.clone());
+        assert_eq!(all.total, 3);
+        (all.differences, all.enough)
+    }
+
+    #[test]
+    fn each_other_line_is_a_difference() {
+        let lines = ["accepted 1 0", "refused 1 0", "refused 5 0"].map(str::to_string);
+        assert_eq!(compared(3, Ok(lines.to_vec())), (0, true));
+        assert_eq!(compared(4, Ok(lines.to_vec())), (0, false));
+        assert_eq!(compared(3, Ok(lines[..2].to_vec())), (1, true));
+        assert_eq!(compared(3, Ok([&lines[..], &lines].concat())), (1, true));
+        assert_eq!(compared(3, Ok(vec![lines[0].clone(); 3])), (2, true));
+        assert_eq!(compared(3, Err("it is missing".to_string())), (3, true));
     }
 }

@@ -4,6 +4,8 @@
 //! that differs by turn and by place, so that a byte that is written wrongly, not
 //! at all or outside the buffer shows.
 
+use archive::{OfOne, OfTwo};
+
 /// So many guard bytes stand on either side at least.
 const GUARD: usize = 32;
 
@@ -102,6 +104,28 @@ impl Lent {
     pub fn from(&self, place: isize, count: usize) -> &[u8] {
         let at = (self.start as isize + place) as usize;
         &self.all[at..self.all.len().min(at + count)]
+    }
+}
+
+// In these calls the pointers and lengths are those of lent buffers, which live through
+// the call, and of which no other pointer is in use.
+
+/// Calls a function that reads one buffer and writes one.
+pub fn of_one(function: OfOne, first: &mut Lent, out: &mut Lent) -> u64 {
+    unsafe { function(first.pointer(), first.length(), out.pointer(), out.length()) }
+}
+
+/// Calls a function that reads two buffers and writes one.
+pub fn of_two(function: OfTwo, first: &mut Lent, second: &mut Lent, out: &mut Lent) -> u64 {
+    unsafe {
+        function(
+            first.pointer(),
+            first.length(),
+            second.pointer(),
+            second.length(),
+            out.pointer(),
+            out.length(),
+        )
     }
 }
 

@@ -4,47 +4,51 @@
 //! Each module does one job in the plainest way. Nothing here is shared with
 //! the proved library: no code and no tables.
 //!
+//! What the entries rest on:
+//!
+//! - `limits`: the numbers of document 01.
 //! - `number`: the numbers inside items.
-//! - `rule`: formulas as trees, and loading a rule from its bytes.
+//! - `refusal`: refusals.
+//! - `formula`: formulas as trees, and as rule bytes.
 //! - `meaning`: whether a formula holds on a clip.
-//! - `write`: a formula as rule bytes.
-//! - `random`: repeatable random rules, good and bad.
-//! - `cases`: the list of rules that both programs load.
-//! - `stream`: bytes in a binary stream, and rules as text lines.
-//! - `code`: sequencer code, loaded from its bytes and written.
-//! - `machine`: the registers, one step, and the run over a clip.
-//! - `emit`: a formula as sequencer code.
-//! - `random_code`: repeatable random code, good and bad, registers and clips.
-//! - `case`: a case for the sequencer or the emitter, in a stream and as text,
-//!   and its answer.
-//! - `sequencer_cases`, `emitter_cases`: the lists of cases that both programs
-//!   answer.
-//! - `search`: the search for the first clip that meets a rule.
-//! - `every_clip`: the same for tiny rules, by trying every clip.
-//! - `search_case`, `search_cases`: a case for the search, and the list of them.
+//! - `instruction`: the sequencer's instructions, and their bytes.
+//! - `machine`: the registers, and one frame through code.
+//! - `random`: repeatable random numbers, rules, code, registers and clips.
+//! - `text`: bytes and buffers as text.
+//! - `stream`: cases for the program `runs`.
+//!
+//! Each entry is a folder. It does the entry's job, `case` has its cases as lines of
+//! text and their answers, and `cases` the list for a seed. `entry` has what is common
+//! to all, and the list of them:
+//!
+//! - `load`: loading a rule.
+//! - `load_code`: loading code.
+//! - `step`: one frame through code, from any registers.
+//! - `run`: code over a clip.
+//! - `emit`: a rule as code.
+//! - `verdicts`: whether a rule holds on a clip, from each frame on.
+//! - `search`: the search for the first clip that meets a rule; `every_clip` does the
+//!   same for tiny rules, by trying every clip.
 //! - `makers`: new rules from rules.
-//! - `maker_case`, `maker_cases`: a case for a maker, and the list of them.
-//! - `standing`: the text of the program that prints a rule's standing.
+//! - `standing`: the program that prints a rule's standing.
 
-pub mod case;
-pub mod cases;
-pub mod code;
 pub mod emit;
-pub mod emitter_cases;
-pub mod every_clip;
+pub mod entry;
+pub mod formula;
+pub mod instruction;
+pub mod limits;
+pub mod load;
+pub mod load_code;
 pub mod machine;
-pub mod maker_case;
-pub mod maker_cases;
 pub mod makers;
 pub mod meaning;
 pub mod number;
 pub mod random;
-pub mod random_code;
-pub mod rule;
+pub mod refusal;
+pub mod run;
 pub mod search;
-pub mod search_case;
-pub mod search_cases;
-pub mod sequencer_cases;
 pub mod standing;
+pub mod step;
 pub mod stream;
-pub mod write;
+pub mod text;
+pub mod verdicts;

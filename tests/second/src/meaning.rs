@@ -1,11 +1,10 @@
 //! Whether a formula holds on a clip, word for word as document 01 says it.
 //! `holds` is asked about one frame and remembers nothing between questions, so
-//! large windows inside each other take long. `judge` doesn't ask it frame by
-//! frame; it goes by `verdicts`, which has the same questions, asks each operand
-//! about each frame once, and keeps the answers. A test shows that the two agree.
+//! large windows inside each other take long. `verdicts` has the same questions, asks
+//! each operand about each frame once, and keeps the answers. A test shows that the
+//! two agree.
 
-use crate::machine::write_verdicts;
-use crate::rule::{load, Formula, Refusal, Window};
+use crate::formula::{Formula, Window};
 
 /// Whether the formula holds on the clip from frame `i`, which is a frame of
 /// the clip.
@@ -59,21 +58,16 @@ fn release(w: Window, n: usize, l: Operand, r: Operand) -> bool {
     !until(w, n, &|place| !l(place), &|place| !r(place))
 }
 
-/// Judges a clip by a rule's meaning: the rule, then 13, then 16. It writes one
-/// byte a frame from the buffer's first byte on, and nothing if it refuses.
-pub fn judge(rule: &[u8], clip: &[u8], buffer: &mut [u8]) -> Result<(), Refusal> {
-    let rule = load(rule)?;
-    write_verdicts(clip, buffer, || verdicts(&rule.formula, clip))
-}
-
 #[cfg(test)]
 mod tests {
     use super::*;
-    use crate::random::{formula, good_formula, Budget, Random};
-    use crate::stream::bytes_of_text;
+    use crate::load::load;
+    use crate::random::rule::{formula, good_formula, Budget};
+    use crate::random::Random;
+    use crate::text::bytes;
 
     fn rule(text: &str) -> Formula {
-        load(&bytes_of_text(text).unwrap()).unwrap().formula
+        load(&bytes(text)).unwrap().formula
     }
 
     /// The verdicts of all frames, one by one.
@@ -340,36 +334,5 @@ mod tests {
             assert_eq!(super::verdicts(&f, &clip), one_by_one(&f, &clip), "{f:?}");
         }
         assert_eq!(super::verdicts(&Formula::True, &[]), []);
-    }
-
-    #[test]
-    fn the_sample_of_01_is_judged() {
-        let mut buffer = [9; 5];
-        let rule = bytes_of_text("12 00 12 01 30 01 03").unwrap();
-        assert_eq!(judge(&rule, &[0, 1, 2], &mut buffer), Ok(()));
-        assert_eq!(buffer, [1, 1, 0, 9, 9]);
-    }
-
-    #[test]
-    fn a_judge_refuses_the_rule_then_13_then_16() {
-        let number = |rule: &[u8], frames: usize, room: usize| {
-            let mut buffer = vec![7; room];
-            let result = judge(rule, &vec![0; frames], &mut buffer);
-            if result.is_err() {
-                assert!(buffer.iter().all(|&byte| byte == 7));
-            }
-            result.map_or_else(|refusal| (refusal.number, refusal.place), |()| (0, 0))
-        };
-        assert_eq!(number(&[], 0, 0), (1, 0));
-        assert_eq!(number(&[0x10, 0x13], 65_536, 0), (2, 1));
-        assert_eq!(number(&[0x10, 0x10], 3, 0), (9, 2));
-        assert_eq!(number(&[0x10], 0, 0), (13, 0));
-        assert_eq!(number(&[0x10], 0, 5), (13, 0));
-        assert_eq!(number(&[0x10], 65_536, 0), (13, 0));
-        assert_eq!(number(&[0x10], 65_536, 65_536), (13, 0));
-        assert_eq!(number(&[0x10], 65_535, 65_534), (16, 0));
-        assert_eq!(number(&[0x10], 65_535, 65_535), (0, 0));
-        assert_eq!(number(&[0x10], 1, 0), (16, 0));
-        assert_eq!(number(&[0x10], 3, 9), (0, 0));
     }
 }

@@ -1,8 +1,10 @@
 //! The numbers inside items: groups of seven bits, lowest group first, the
 //! shortest form only, at most two bytes.
 
+/// A group of seven bits has so many values.
+const GROUP: usize = 128;
 /// The largest number that two bytes hold.
-pub const LARGEST: usize = 16_383;
+pub const LARGEST: usize = GROUP * GROUP - 1;
 
 /// What can be wrong with the bytes of a number.
 #[derive(Clone, Copy, Debug, PartialEq, Eq)]
@@ -18,28 +20,38 @@ pub enum Fault {
 /// bytes it takes.
 pub fn read(bytes: &[u8]) -> Result<(usize, usize), Fault> {
     let first = *bytes.first().ok_or(Fault::Ends)?;
-    if first < 128 {
-        return Ok((first as usize, 1));
+    let first = first as usize;
+    if first < GROUP {
+        return Ok((first, 1));
     }
-    let second = *bytes.get(1).ok_or(Fault::Ends)?;
-    if second >= 128 {
+    let second = *bytes.get(1).ok_or(Fault::Ends)? as usize;
+    if second >= GROUP {
         return Err(Fault::Form);
     }
     if second == 0 {
         // One byte would do: the higher group adds nothing.
         return Err(Fault::Form);
     }
-    Ok(((first as usize - 128) + 128 * second as usize, 2))
+    Ok((first - GROUP + GROUP * second, 2))
+}
+
+/// Splits one number off, or gives the number of the refusal: 3 or 4.
+pub fn split(bytes: &[u8]) -> Result<(usize, &[u8]), u8> {
+    match read(bytes) {
+        Ok((value, length)) => Ok((value, &bytes[length..])),
+        Err(Fault::Ends) => Err(3),
+        Err(Fault::Form) => Err(4),
+    }
 }
 
 /// Writes a number in its shortest form.
 pub fn write(number: usize, out: &mut Vec<u8>) {
     assert!(number <= LARGEST, "{number} does not fit in two bytes");
-    if number < 128 {
+    if number < GROUP {
         out.push(number as u8);
     } else {
-        out.push(128 + (number % 128) as u8);
-        out.push((number / 128) as u8);
+        out.push((GROUP + number % GROUP) as u8);
+        out.push((number / GROUP) as u8);
     }
 }
 
