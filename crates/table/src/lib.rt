@@ -24,7 +24,7 @@ use ground::limits::MOST_RECORDS;
 use ground::limits::RECORD;
 use sequencer::registers::Registers;
 
-// What a look-up answers: the number of the record that keeps these registers, or none.
+// What a look-up answers: the number of the last record that keeps these registers, or none.
 pub enum Look {
     At(usize),
     Nowhere,

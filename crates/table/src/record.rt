@@ -1,4 +1,4 @@
-// A record of the table: the registers of a state (64 bytes: two for each counter, lowest first, and a bit for each
+// A record of the table: the registers of a state (two bytes for each counter, lowest first, and a bit for each
 // delay bit), the link to the record that it came from (three bytes: its number and one more, or 0), and the frame byte
 // that led here. Behind them stands a part of the index, in the form of the link: the record before this one in its
 // bucket, and the last record of the bucket that has this record's number.
