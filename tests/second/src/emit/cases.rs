@@ -310,6 +310,7 @@ pub mod tests {
             formulas.iter().map(most_bytes).max(),
             Some(most_bytes(&longest))
         );
+        assert_eq!((emit(&longest).len(), most_bytes(&longest)), (199, 661));
     }
 
     #[test]

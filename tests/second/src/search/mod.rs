@@ -261,6 +261,7 @@ mod tests {
             (RECORD, 1),
             (2 * RECORD - 1, 1),
             (2 * RECORD, 2),
+            (TABLE, 819),
             (most - 1, MOST_RECORDS - 1),
             (most, MOST_RECORDS),
             (most + RECORD + 1, MOST_RECORDS),
