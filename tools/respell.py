@@ -14,7 +14,7 @@ import sys
 
 WORD = r"[^\s(){}\[\],;.:«»\"`λ∷◌]+"
 HEAD = re.compile(
-    r"\s*(?:abbrev |unfoldable |pub |data |record |ruleset |mutual )*(" + WORD + r")(?: [({][^)}]*[)}])* : ")
+    r"\s*(?:abbrev |unfoldable |pub |data |record |ruleset |mutual )*(" + WORD + r")(?: [({][^)}]*[)}])* :(?: |$)")
 # Lemmas that would have the name of a definition.
 LEMMAS = """four-numbers counted-row after_one after_two code-bytes next-frame one-made two_made state-at next-byte
 item-bytes at-end is-on refusal-told which-told length-told are-bytes too_short""".split()
@@ -40,7 +40,7 @@ def snake(name):
 def definitions():
     names = {}
     for path in files("crates/*/specs/**/*.antt", "crates/*/proofs/*.antt"):
-        for line in open(path, encoding="utf-8"):
+        for line in open(path, encoding="utf-8").read().split("\n"):
             found = HEAD.match(line)
             if found and not re.match(r"\s*(--|let |use |module )", line):
                 names.setdefault(found[1], path)

@@ -10,7 +10,7 @@ use Rattle.reading.specs.Items.{numbers_bytes}
 use Rattle.reading.specs.Numbers.{number_bytes}
 use Rattle.ground.specs.Buffers.{written, place_after}
 use Rattle.reading.proofs.InTurn.{bytes_append}
-use Rattle.ground.proofs.Written.{nothing, fitting, room_more, written-more}
+use Rattle.ground.proofs.Written.{nothing, fitting, room_more, written_more}
 use Rattle.rules.specs.declared.item.Item.{Item}
 use Rattle.code.specs.Code.{Instruction, One, Flag, Nand, Reach, Later, Code, bytes_of_instruction}
 use Rattle.emitter.specs.Translation.{N, then_n, later_by, timed, not_timed, item_code, bytes_of_code}
@@ -31,7 +31,7 @@ numbers_put (n ∷ ns) out at after next h p =
     let (mid, place, (first, behind), rest) = p in
     let room = rw (← first, ← behind) at (room_more out at (number_bytes n) (numbers_bytes ns) h) in
     let (w, q) = numbers_put ns mid place after next room rest in
-    let (all, end) = written-more out at (number_bytes n) (numbers_bytes ns) h in
+    let (all, end) = written_more out at (number_bytes n) (numbers_bytes ns) h in
     (rw (first, behind) at w ∙ all, rw (first, behind) at q ∙ end)
 
 -- the numbers of an instruction: its code byte, and those behind it
@@ -99,7 +99,7 @@ module _ (out : List ℕ) (end : CodeEnd) (c d : Code) (room : CodeRoom out end 
 
     pub wrote_more : (after : List ℕ) (next : CodeEnd) → CodeWrote mid e d after next → CodeWrote out end (c ++ d) after next
     wrote_more after next v =
-        let all = (written-more out end.at (bytes_of_code c) (bytes_of_code d) fits).0 in
+        let all = (written_more out end.at (bytes_of_code c) (bytes_of_code d) fits).0 in
         record {
           own_bytes = rw (at_place, w.own_bytes) at v.own_bytes ∙ rw bytes_append all;
           own_end = rw w.own_end at v.own_end ∙ end_append end c d;

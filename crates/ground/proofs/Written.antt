@@ -1,16 +1,16 @@
 -- Laws of `written` and `place_after`: bytes that fit stand from the place on and the next place is behind them, and bytes that don't leave all as it was. As
 -- stores one by one, bytes written behind bytes are as if all were written at once.
 use mathlib.Core.Path.{◌≡◌, sym}
-use mathlib.Core.List.{List, [], ◌∷◌, ◌++◌, append_assoc, append-nil}
+use mathlib.Core.List.{List, [], ◌∷◌, ◌++◌, append_assoc}
 use Prim.Native.Nat.{ℕ, suc, ◌+◌, ◌-◌, ◌≤◌, ◌<◌}
 use native.Mathlib.Nat.{add-zero, add_assoc}
 use native.Mathlib.Decide.{dec_le}
 use native.Mathlib.Omega.{arith}
 use mathlib.Core.Logic.{by_cases}
 use borrow.Author.Tests.{le-leb, lt-leb}
-use borrow.Rule.Slice.PartMut.{mid_of, put_mid}
-use lib.ListN.{length, take, drop, set, length-append, length-drop, drop_of_length-le}
-use lib.Seq.{sets, sets-eq, length-sets, take_all, drop-drop}
+use borrow.Rule.Slice.PartMut.{put_mid}
+use lib.ListN.{length, take, drop, set, length-append}
+use lib.Seq.{sets, sets-eq, length-sets, drop-drop}
 use Rattle.ground.specs.Buffers.{written, place_after}
 
 module _ (buffer : List ℕ) (at : ℕ) (bytes : List ℕ) where
@@ -52,10 +52,10 @@ module _ (buffer : List ℕ) (at : ℕ) (xs ys : List ℕ) (fits : at + length (
       let (stores, place) = fitting buffer at xs (omega (arith, length-append xs ys)) in
       rw (← stores, ← place, length-sets) (omega (arith, length-append xs ys))
 
-  pub written-more :
+  pub written_more :
       (written (written buffer at xs) (place_after buffer at xs) ys ≡ written buffer at (xs ++ ys))
       × (place_after (written buffer at xs) (place_after buffer at xs) ys ≡ place_after buffer at (xs ++ ys))
-  written-more =
+  written_more =
       let (first, place) = fitting buffer at xs (omega (arith, length-append xs ys)) in
       let (both, end) = fitting buffer at (xs ++ ys) fits in
       let (second, last) = fitting (written buffer at xs) (place_after buffer at xs) ys room_more in
@@ -68,22 +68,11 @@ unfolding written place_after
 written_fitting buffer at bytes fits =
     (rw (le-leb _ _ fits) (append_assoc (take at buffer) bytes (drop (at + length bytes) buffer)), rw (le-leb _ _ fits))
 
--- bytes copied to the front of the part of a buffer that begins at a place
-pub copied : (buffer : List ℕ) (at : ℕ) (bytes part : List ℕ) → at + length bytes ≤ length buffer →
-    part ≡ take (length bytes) bytes ++ drop (length bytes) (mid_of at (length buffer - at) buffer) →
-    (put_mid at (length buffer - at) buffer part ≡ written buffer at bytes) × (at + length bytes ≡ place_after buffer at bytes)
+-- bytes copied over the part of a buffer that is as long, from a place on
+pub copied : (buffer : List ℕ) (at : ℕ) (bytes part : List ℕ) → at + length bytes ≤ length buffer → part ≡ bytes →
+    (put_mid at (at + length bytes - at) buffer part ≡ written buffer at bytes) × (at + length bytes ≡ place_after buffer at bytes)
 copied buffer at bytes part fits e =
     let (stand, place) = written_fitting buffer at bytes fits in
-    let rest : length (drop at buffer) ≤ length buffer - at = simp length-drop (omega arith) in
+    let width : at + length bytes - at ≡ length bytes = omega arith in
     let behind : drop (length bytes) (drop at buffer) ≡ drop (at + length bytes) buffer = drop-drop (length bytes) at buffer in
-    let whole : put_mid at (length buffer - at) buffer part ≡ written buffer at bytes =
-    rw (
-      stand,
-      e,
-      take_all (length buffer - at) (drop at buffer) rest,
-      take_all (length bytes) bytes (omega arith),
-      drop_of_length-le (drop at buffer) {i = length buffer - at} rest,
-      append-nil,
-      behind,
-    ) in
-    (whole, sym place)
+    (rw (stand, e, width, behind), sym place)

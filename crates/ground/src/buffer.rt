@@ -2,8 +2,6 @@
 ghost use Rattle.std.specs.Prelude.{◌≡◌};
 ghost use Rattle.ground.specs.Buffers.{written, place_after};
 
-use bytes::copy;
-
 // Writes bytes from a place on and answers the place behind them. Bytes that do not fit are not written, and the answer
 // is the place itself.
 pub fn write_bytes(buffer: &mut [u8], at: usize, bytes: &[u8]) -> usize
@@ -16,6 +14,6 @@ pub fn write_bytes(buffer: &mut [u8], at: usize, bytes: &[u8]) -> usize
     if buffer.len() - at < bytes.len() {
         return at;
     }
-    copy(bytes, &mut buffer[at..]);
+    buffer[at..at + bytes.len()].copy_from_slice(bytes);
     at + bytes.len()
 }

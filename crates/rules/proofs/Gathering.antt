@@ -50,7 +50,7 @@ column_more f is i h =
     rw map-append (rw n at (set_padded limits.items (map g is) (g i) (omega arith)))
 
 -- before the first item
-pub gathers-none :
+pub gathers_none :
     Gathers (record {
       counts = record { items = 0; timed = 0; lower = 0; depth = 0 };
       horizons = replicate limits.items 0;
@@ -60,7 +60,7 @@ pub gathers-none :
       uppers = replicate limits.items 0;
     }) []
 unfolding rule_counts stack_from timed_in lower_in Stacked padded
-gathers-none =
+gathers_none =
     record { counts = refl; horizons = tt; room = refl; codes = refl; flags = refl; lowers = refl; uppers = refl }
 
 map-drop : (n : ℕ) (st : List Formula) → map horizon (drop n st) ≡ drop n (map horizon st)
@@ -118,7 +118,7 @@ module _ (g : Gathered) (row : ItemRow) (c : RuleCounts) (is : Items) (i : Item)
           m.good.within.timed,
         )
 
-    pub gathers-more :
+    pub gathers_more :
         Gathers (record {
           counts = c;
           horizons = set g.horizons (g.counts.depth - row.operands) (row.upper + reach);
@@ -128,7 +128,7 @@ module _ (g : Gathered) (row : ItemRow) (c : RuleCounts) (is : Items) (i : Item)
           uppers = set g.uppers g.counts.items row.upper;
         }) (is ++ i ∷ [])
     unfolding rule_counts
-    gathers-more =
+    gathers_more =
         let f = m.gathers in
         let a = applied i (stack_of is) m.fine.operands in
         let n : g.counts.items ≡ length is = ap (λ k. k.items) f.counts in

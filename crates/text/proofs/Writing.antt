@@ -5,14 +5,14 @@ use mathlib.Core.List.{List, [], ◌++◌}
 use Prim.Native.Nat.{ℕ}
 use native.Mathlib.Omega.{arith}
 use lib.ListN.{length-append}
-use Rattle.ground.proofs.Written.{nothing, room_more, written-more}
+use Rattle.ground.proofs.Written.{nothing, room_more, written_more}
 use Rattle.text.specs.Inner.Writing.{Room, Puts}
 
 -- bytes behind bytes, where there is room for all
 pub puts_more : (text : List ℕ) (at : ℕ) (xs ys : List ℕ) → Room text at (xs ++ ys) → {mid after : List ℕ} {place end : ℕ}
     → Puts text at xs mid place → Puts mid place ys after end → Puts text at (xs ++ ys) after end
 puts_more text at xs ys room (first, place) (second, end) =
-    rw (← (written-more text at xs ys room).0, ← (written-more text at xs ys room).1, ← first, ← place) (second, end)
+    rw (← (written_more text at xs ys room).0, ← (written_more text at xs ys room).1, ← first, ← place) (second, end)
 
 -- What is left of a text: there is room for it, and once it is written all of the text is
 pub record Left (text₀ : List ℕ) (at₀ : ℕ) (all text : List ℕ) (at : ℕ) (rest : List ℕ) : Type 0 where

@@ -1,6 +1,6 @@
--- `Gathered::with` meets its contract: the checked item has room, and the stores are those of `gathers-more`.
+-- `Gathered::with` meets its contract: the checked item has room, and the stores are those of `gathers_more`.
 use native.Mathlib.Omega.{arith}
-use Rattle.rules.proofs.Gathering.{space_of, depth_of, near_of, gathers-more}
+use Rattle.rules.proofs.Gathering.{space_of, depth_of, near_of, gathers_more}
 use Rattle.rules.proofs.gather.Gathered.with.Statement.{statement}
 use Rattle.rules.proofs.gather.Gathered.with.Tie as tie
 
@@ -44,7 +44,7 @@ element-write-self-5 : tie.Need-element-write-self-5
 element-write-self-5 c = omega (arith, space_of _ _ _ _ _ c.before.before.requires.2)
 
 returns : tie.Need-returns
-returns c = λ is i m. gathers-more _ _ _ _ _ m _ (c.largest.ensures _ m.gathers.horizons (depth_of _ _ _ _ _ m))
+returns c = λ is i m. gathers_more _ _ _ _ _ m _ (c.largest.ensures _ m.gathers.horizons (depth_of _ _ _ _ _ m))
 
 pub with-spec : {M : Type 1} → statement M
 with-spec =
