@@ -10,7 +10,7 @@ use ground::refusal::Refusal;
 
 // What is checked of an instruction: its flag, how many instructions its operands need before it, whether it is a REACH
 // (1 or 0) and its width, whether it is a LATER (1 or 0) and its distance. What it lacks is 0.
-#[derive(Drop)]
+#[derive(Clone, Copy)]
 pub(crate) struct InstructionRow {
     pub flag: u16,
     pub needs: usize,
@@ -21,7 +21,7 @@ pub(crate) struct InstructionRow {
 }
 
 // What is counted on the way: instructions, REACH instructions, the sum of the distances.
-#[derive(Drop)]
+#[derive(Clone, Copy)]
 pub(crate) struct CodeCounts {
     pub instructions: usize,
     pub reaches: usize,
@@ -29,7 +29,7 @@ pub(crate) struct CodeCounts {
 }
 
 // What becomes of an instruction: the counts with it, or the refusal.
-#[derive(Drop)]
+#[derive(Clone, Copy)]
 pub(crate) enum CheckedInstruction {
     Next(CodeCounts),
     Refused(Refusal),

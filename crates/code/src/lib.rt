@@ -1,3 +1,5 @@
 // Sequencer code as bytes: loading it. It knows nothing of rules, and nothing of what code does.
+#![tactic(auto)]
+
 mod check;
 pub mod load;

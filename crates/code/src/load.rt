@@ -16,7 +16,7 @@ pub const PER_INSTRUCTION: usize = 4;
 pub const NUMBERS: usize = PER_INSTRUCTION * MOST_INSTRUCTIONS;
 
 // What loading answers: how many instructions, or the refusal.
-#[derive(Drop)]
+#[derive(Clone, Copy)]
 pub enum LoadedCode {
     Accepted(usize),
     Refused(Refusal),
@@ -24,7 +24,7 @@ pub enum LoadedCode {
 
 // Code that was loaded: the answer and, if it is accepted, four numbers for each instruction in order, with zeros
 // behind.
-#[derive(Drop)]
+#[derive(Clone, Copy)]
 pub struct Program {
     pub loaded: LoadedCode,
     pub numbers: [u16; NUMBERS],

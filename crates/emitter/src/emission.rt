@@ -11,7 +11,7 @@ use rules::load::Rule;
 
 // Where emitting stands: the end of the code so far, and the numbers of the bits of the values that wait for an
 // operator.
-#[derive(Drop)]
+#[derive(Clone, Copy)]
 pub(crate) struct Emission {
     pub end: CodeEnd,
     pub bits: [u16; MOST_ITEMS],

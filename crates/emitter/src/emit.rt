@@ -11,7 +11,7 @@ use ground::refusal::Refusal;
 use rules::load::{Loaded, Rule, decode};
 
 // What emitting answers: the length of the code, or the refusal.
-#[derive(Drop)]
+#[derive(Clone, Copy)]
 pub enum Emitted {
     Length(usize),
     Refused(Refusal),

@@ -1,4 +1,6 @@
 // The emitter: rules as code for the sequencer.
+#![tactic(auto)]
+
 mod emission;
 pub mod emit;
 mod item;

@@ -13,7 +13,7 @@ use rules::load::{Loaded, Rule, decode};
 
 // What an engine needs of a rule: what loading answers and, if it is accepted, its code as the sequencer loads it: four
 // numbers for each of so many instructions, with zeros behind.
-#[derive(Drop)]
+#[derive(Clone, Copy)]
 pub struct Prepared {
     pub loaded: Loaded,
     pub count: usize,

@@ -7,7 +7,7 @@ ghost use Rattle.emitter.specs.Inner.Write.{CodeRoom, CodeWrote};
 use reading::number::write_number;
 
 // Where code ends: how many bytes and how many instructions it has.
-#[derive(Drop)]
+#[derive(Clone, Copy)]
 pub(crate) struct CodeEnd {
     pub at: usize,
     pub count: u16,

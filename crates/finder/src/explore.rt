@@ -10,21 +10,21 @@ use sequencer::registers::Registers;
 use table::{Look, find, registers_at, store};
 
 // What is stored: how many states, and whether one was found for which there is no record.
-#[derive(Drop)]
+#[derive(Clone, Copy)]
 pub(crate) struct Kept {
     pub stored: usize,
     pub full: bool,
 }
 
 // What one trial comes to: whether it satisfies, and what is stored then.
-#[derive(Drop)]
+#[derive(Clone, Copy)]
 pub(crate) struct Trial {
     pub hit: bool,
     pub kept: Kept,
 }
 
 // What the trials of a length come to: whether one satisfies, by which state and frame byte, and what is stored.
-#[derive(Drop)]
+#[derive(Clone, Copy)]
 pub(crate) struct Trials {
     pub hit: bool,
     pub state: usize,
@@ -34,7 +34,7 @@ pub(crate) struct Trials {
 
 // What exploring answers: the state and the frame byte that satisfy and the number of states of shorter clips, the
 // number of all states, or no room.
-#[derive(Drop)]
+#[derive(Clone, Copy)]
 pub(crate) enum Explored {
     Met {
         state: usize,

@@ -15,7 +15,7 @@ use table::{clear, frame_at, link_at, room_of};
 
 // What the search answers: a clip's length and the number of states, that there is none and the number of states, or
 // the refusal.
-#[derive(Drop)]
+#[derive(Clone, Copy)]
 pub enum Found {
     Met { length: usize, states: usize },
     None { states: usize },

@@ -1,2 +1,4 @@
 // The makers: new rules of accepted ones.
+#![tactic(auto)]
+
 pub mod make;

@@ -9,7 +9,7 @@ use ground::refusal::Refusal;
 use rules::load::{Loaded, load};
 
 // Which of the three is refused.
-#[derive(Drop)]
+#[derive(Clone, Copy)]
 pub enum Which {
     First,
     Second,
@@ -17,7 +17,7 @@ pub enum Which {
 }
 
 // What a maker answers: the length of the new rule, or which of the three is refused, and how.
-#[derive(Drop)]
+#[derive(Clone, Copy)]
 pub enum Made {
     Length(usize),
     Refused { which: Which, refusal: Refusal },

@@ -1,1 +1,3 @@
 // Breadth first over any step function: definitions and theorems, and no code.
+#![tactic(auto)]
+

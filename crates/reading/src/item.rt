@@ -7,14 +7,14 @@ use crate::number::{Number, read_number};
 use ground::refusal::Refusal;
 
 // Rules and code have separate tables of code bytes.
-#[derive(Drop)]
+#[derive(Clone, Copy)]
 pub enum Table {
     Rule,
     Code,
 }
 
 // What stands at a place: an item (numbers that it lacks are 0) and the place behind it, the end, or a refusal.
-#[derive(Drop)]
+#[derive(Clone, Copy)]
 pub enum Read {
     Item {
         code: u8,

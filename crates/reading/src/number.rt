@@ -7,7 +7,7 @@ use ground::byte::wide;
 use ground::limits::MOST_NUMBER;
 
 // What stands at a place: a number and the place after it, or the fault.
-#[derive(Drop)]
+#[derive(Clone, Copy)]
 pub enum Number {
     Value { value: u16, next: usize },
     // The bytes end before the number does.

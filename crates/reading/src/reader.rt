@@ -7,7 +7,7 @@ ghost use Rattle.reading.specs.Items.{item_at};
 use crate::item::{Read, Table, item_at};
 
 // The lent bytes of a rule or of code, and a place in them.
-#[derive(Drop)]
+#[derive(Clone, Copy)]
 pub(crate) struct Reader<'a> {
     bytes: &'a [u8],
     at: usize,

@@ -65,7 +65,7 @@ good_more is i d g f =
       ranges = each_more InRange is i g.ranges f.ranges;
       near = rw (stack_more, a.gives, timed_more) (
         omega (arith, a.far),
-        rw a.tail (each_drop _ _ (row_of_item i).operands (stack_of is) (λ x h. omega arith) g.near),
+        rw a.tail (each_drop _ _ (row_of_item i).operands (stack_of is) (λ x h. omega (arith, timed_more is i)) g.near),
       );
       whole = rw (stack_more, a.gives) (a.items ∙ ap (λ js. js ++ i ∷ []) g.whole);
     }

@@ -8,7 +8,7 @@ use ground::limits::{MOST_BOUND, MOST_FLAG, MOST_ITEMS, MOST_LOWER, MOST_TIMED};
 use ground::refusal::Refusal;
 
 // What is counted on the way: items, timed items, the sum of the lower bounds, values that wait for an operator.
-#[derive(Drop)]
+#[derive(Clone, Copy)]
 pub(crate) struct RuleCounts {
     pub items: usize,
     pub timed: usize,
@@ -17,7 +17,7 @@ pub(crate) struct RuleCounts {
 }
 
 // What becomes of an item: the counts with it, or the refusal.
-#[derive(Drop)]
+#[derive(Clone, Copy)]
 pub(crate) enum CheckedItem {
     Next(RuleCounts),
     Refused(Refusal),

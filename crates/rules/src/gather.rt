@@ -12,7 +12,7 @@ use ground::limits::MOST_ITEMS;
 
 // What is gathered of the items read so far: their counts, the horizons of the values that wait for an operator, and
 // the items by their numbers.
-#[derive(Drop)]
+#[derive(Clone, Copy)]
 pub(crate) struct Gathered {
     pub counts: RuleCounts,
     pub horizons: [u16; MOST_ITEMS],

@@ -3,7 +3,7 @@ ghost use Rattle.std.specs.Prelude.{◌≡◌};
 ghost use Rattle.rules.specs.Items.{item_of, item_row, row_of_item};
 
 // An item: operands stand before operators, and of two operands the left comes first.
-#[derive(Drop)]
+#[derive(Clone, Copy)]
 pub enum Item {
     True,
     False,
@@ -19,7 +19,7 @@ pub enum Item {
 
 // What document 01 says of an item in numbers: its code byte, its operands, whether it is timed (1 or 0), its flag, its
 // bounds. What it lacks is 0.
-#[derive(Drop)]
+#[derive(Clone, Copy)]
 pub struct ItemRow {
     pub code: u8,
     pub operands: usize,

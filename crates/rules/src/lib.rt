@@ -1,4 +1,6 @@
 // Rules: mission-time temporal logic over clips, and the loading of a rule's bytes.
+#![tactic(auto)]
+
 mod check;
 mod gather;
 pub mod item;

@@ -12,7 +12,7 @@ use reading::item::{Read, Table};
 use reading::reader::read_item;
 
 // What loading answers: how many items and which horizon, or the refusal.
-#[derive(Drop)]
+#[derive(Clone, Copy)]
 pub enum Loaded {
     Accepted { items: usize, horizon: usize },
     Refused(Refusal),
@@ -20,7 +20,7 @@ pub enum Loaded {
 
 // A rule that was loaded: the answer and, if it is accepted, its items in order by their numbers (those of `row_of`),
 // with zeros behind.
-#[derive(Drop)]
+#[derive(Clone, Copy)]
 pub struct Rule {
     pub loaded: Loaded,
     pub codes: [u8; MOST_ITEMS],

@@ -13,6 +13,8 @@
 // emit, `length LENGTH` or the refusal, and ` [BUFFER]`; for verdicts, what a run of the rule's emitted code answers,
 // or the rule's refusal, and ` [BUFFER]`. Where bytes are longer than `MOST_BYTES`, the kind is another, or the stream
 // ends inside a case, the line is `cut`, and it is the last.
+#![tactic(auto)]
+
 ghost use Rattle.std.specs.Prelude.{◌<◌};
 ghost use Rattle.ground.specs.Buffers.{byte_values};
 

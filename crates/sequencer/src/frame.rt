@@ -13,7 +13,7 @@ use code::load::PER_INSTRUCTION;
 pub(crate) const NONE: u16 = 0;
 
 // How many counters and delay bits the instructions so far have taken.
-#[derive(Drop)]
+#[derive(Clone, Copy)]
 pub(crate) struct Taken {
     pub counters: usize,
     pub delays: usize,

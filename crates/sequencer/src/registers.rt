@@ -11,28 +11,28 @@ use ground::limits::{COUNTERS, DELAYS, MOST_INSTRUCTIONS};
 use ground::refusal::Refusal;
 
 // All counters and all delay bits.
-#[derive(Drop)]
+#[derive(Clone, Copy)]
 pub struct Registers {
     pub counters: [u16; COUNTERS],
     pub delays: [bool; DELAYS],
 }
 
 // What a step answers: the output bit, or the refusal of the code.
-#[derive(Drop)]
+#[derive(Clone, Copy)]
 pub enum Output {
     Bit(bool),
     Refused(Refusal),
 }
 
 // What a frame through loaded code hands back: the output bit and the new registers.
-#[derive(Drop)]
+#[derive(Clone, Copy)]
 pub struct Advanced {
     pub bit: bool,
     pub registers: Registers,
 }
 
 // What a step hands back: its answer and the registers, unchanged if the code is refused.
-#[derive(Drop)]
+#[derive(Clone, Copy)]
 pub struct Stepped {
     pub output: Output,
     pub registers: Registers,

@@ -13,7 +13,7 @@ use ground::limits::{COUNTERS, DELAYS, MOST_FRAMES, MOST_INSTRUCTIONS};
 use ground::refusal::Refusal;
 
 // What a run answers: the verdicts are written, or the refusal.
-#[derive(Drop)]
+#[derive(Clone, Copy)]
 pub enum Ran {
     Done,
     Refused(Refusal),

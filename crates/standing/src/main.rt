@@ -2,6 +2,8 @@
 // none.
 //
 // Standard input: the rule's bytes, of which up to 1,024 are read. Standard output: document 01's text under "Program".
+#![tactic(auto)]
+
 mod clip;
 mod standing;
 

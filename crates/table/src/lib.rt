@@ -1,5 +1,7 @@
 // The table: records one behind the other, each known by its number, and found by the index. It knows registers and
 // bytes, and no search.
+#![tactic(auto)]
+
 mod index;
 mod record;
 
@@ -17,7 +19,7 @@ use ground::limits::{MOST_RECORDS, RECORD};
 use sequencer::registers::Registers;
 
 // What a look-up answers: the number of the last record that keeps these registers, or none.
-#[derive(Drop)]
+#[derive(Clone, Copy)]
 pub enum Look {
     At(usize),
     Nowhere,

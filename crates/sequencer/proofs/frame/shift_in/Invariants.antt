@@ -1,0 +1,13 @@
+-- `shift_in` meets its contract. The loop's invariant: up to p the line has moved (`moved`). The measure is how far p is from the last bit.
+use native.Mathlib.Omega.{arith}
+use Prim.Native.Nat.{◌+◌, ◌-◌, ◌≤◌}
+use mathlib.Core.Path.{◌≡◌, ap, ◌∙◌}
+use lib.ListN.{length, length-set}
+use Rattle.sequencer.proofs.Shifting.{moved, moved_none, moved_length, moved_more, shifted_moved}
+use Rattle.sequencer.proofs.frame.shift_in.Given as goal
+
+abbrev pub invariant-loop-p : goal.invariant-loop-p
+invariant-loop-p l = (l.delays ≡ moved l.initial.delays l.at l.p) × (l.at ≤ l.p) × (l.p ≤ l.last)
+
+abbrev pub decreases-loop-p : goal.decreases-loop-p
+decreases-loop-p l = l.last - l.p
