@@ -85,10 +85,10 @@ formula_fit c Formula.True p e = behind_fit c Item.True 0 0 e.0 (λ h. omega ari
 formula_fit c Formula.False p e = behind_fit c Item.False 0 0 e.0 (λ h. omega arith) p
 formula_fit c (Formula.Flag k) p e = behind_fit c (Item.Flag k) 0 0 e.0 (λ h. omega arith) p
 formula_fit c (Formula.Not f) p e = after_one_lem c f (formula_fit c f p) Item.Not e
-formula_fit c (Formula.And f g) p e = after_two_lem c f (formula_fit c f p) g (λ r q. formula_fit _ g q r) Item.And e
-formula_fit c (Formula.Or f g) p e = after_two_lem c f (formula_fit c f p) g (λ r q. formula_fit _ g q r) Item.Or e
-formula_fit c (Formula.Until a b f g) p e = after_two_lem c f (formula_fit c f p) g (λ r q. formula_fit _ g q r) (Item.Until a b) e
-formula_fit c (Formula.Release a b f g) p e = after_two_lem c f (formula_fit c f p) g (λ r q. formula_fit _ g q r) (Item.Release a b) e
+formula_fit c (Formula.And f g) p e = after_two_lem c f (formula_fit c f p) g (λ r q. formula_fit (translate c f) g q r) Item.And e
+formula_fit c (Formula.Or f g) p e = after_two_lem c f (formula_fit c f p) g (λ r q. formula_fit (translate c f) g q r) Item.Or e
+formula_fit c (Formula.Until a b f g) p e = after_two_lem c f (formula_fit c f p) g (λ r q. formula_fit (translate c f) g q r) (Item.Until a b) e
+formula_fit c (Formula.Release a b f g) p e = after_two_lem c f (formula_fit c f p) g (λ r q. formula_fit (translate c f) g q r) (Item.Release a b) e
 formula_fit c (Formula.Eventually a b f) p e = after_one_lem c f (formula_fit c f p) (Item.Eventually a b) e
 formula_fit c (Formula.Globally a b f) p e = after_one_lem c f (formula_fit c f p) (Item.Globally a b) e
 

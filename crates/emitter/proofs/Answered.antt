@@ -129,9 +129,8 @@ module _ (bytes : List ℕ) (rule : Rule) (n : ℕ) (a : Accepts bytes rule n) w
         pub answer_length : Emitted.Length m ≡ emitted_of (read_rule bytes) out
         answer_length = rw (a.read, own_length) (sym (has_room a.items a.formula out (omega (arith, own_length))))
 
-        pub answer_bytes : (after : List ℕ) → let code = take m held in after ≡ take (length code) code ++ drop (length code) out
-            → after ≡ over (bytes_for (read_rule bytes)) out
-        answer_bytes after e = e ∙ rw (first_part, a.read, take-length)
+        pub answer_bytes : (after : List ℕ) → after ≡ take m held ++ drop m out → after ≡ over (bytes_for (read_rule bytes)) out
+        answer_bytes after e = e ∙ rw (first_part, a.read, own_length)
 
 -- a rule that is refused
 pub answer_refused : (bytes out : List ℕ) (rule : Rule) (r : Refusal) → rule ≡ rule_of (read_rule bytes) → Loaded.Refused r ≡ rule.loaded

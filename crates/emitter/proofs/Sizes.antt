@@ -80,10 +80,10 @@ grown c Formula.True = grown_item c Item.True 0 0
 grown c Formula.False = grown_item c Item.False 0 0
 grown c (Formula.Flag k) = grown_item c (Item.Flag k) 0 0
 grown c (Formula.Not f) = joined (grown c f) (grown_item _ Item.Not _ _)
-grown c (Formula.And f g) = joined (grown c f) (joined (grown _ g) (grown_item _ Item.And _ _))
-grown c (Formula.Or f g) = joined (grown c f) (joined (grown _ g) (grown_item _ Item.Or _ _))
-grown c (Formula.Until a b f g) = joined (grown c f) (joined (grown _ g) (grown_item _ (Item.Until a b) _ _))
-grown c (Formula.Release a b f g) = joined (grown c f) (joined (grown _ g) (grown_item _ (Item.Release a b) _ _))
+grown c (Formula.And f g) = joined (grown c f) (joined (grown (translate c f) g) (grown_item _ Item.And _ _))
+grown c (Formula.Or f g) = joined (grown c f) (joined (grown (translate c f) g) (grown_item _ Item.Or _ _))
+grown c (Formula.Until a b f g) = joined (grown c f) (joined (grown (translate c f) g) (grown_item _ (Item.Until a b) _ _))
+grown c (Formula.Release a b f g) = joined (grown c f) (joined (grown (translate c f) g) (grown_item _ (Item.Release a b) _ _))
 grown c (Formula.Eventually a b f) = joined (grown c f) (grown_item _ (Item.Eventually a b) _ _)
 grown c (Formula.Globally a b f) = joined (grown c f) (grown_item _ (Item.Globally a b) _ _)
 

@@ -5,7 +5,6 @@ ghost use Rattle.emitter.specs.Inner.Emission.{LoadedSays};
 ghost use Rattle.rules.specs.Loaded.{LoadedFrom};
 
 use crate::emission::emit_items;
-use bytes::copy;
 use ground::limits::MOST_CODE;
 use ground::refusal::Refusal;
 use rules::load::{Loaded, Rule, decode};
@@ -30,7 +29,7 @@ pub(crate) fn emit_rule(rule: Rule, out: &mut [u8]) -> Emitted
             if out.len() < length {
                 return Emitted::Refused(Refusal::ShortOutput);
             }
-            copy(&code[..length], out);
+            out[..length].copy_from_slice(&code[..length]);
             Emitted::Length(length)
         }
         Loaded::Refused(refusal) => Emitted::Refused(refusal),

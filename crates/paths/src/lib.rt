@@ -1,3 +1,2 @@
 // Breadth first over any step function: definitions and theorems, and no code.
 #![tactic(auto)]
-

@@ -6,8 +6,7 @@ use mathlib.Core.List.{List, [], ◌∷◌, ◌++◌, append_assoc}
 use Prim.Native.Nat.{ℕ, zero, suc, ◌+◌, ◌*◌, ◌≤◌, ◌<◌}
 use native.Mathlib.Numerals.{add-one}
 use native.Mathlib.Omega.{arith}
-use borrow.Author.Tests.{ltb-false}
-use lib.Dec.{ltb}
+use borrow.Author.Tests.{lt-ltb, le-ltb}
 use lib.ListN.{length, get_or, take, drop, set, replicate, length-set, length-take, take-append-drop, drop_of_length-le}
 use lib.Seq.{drop-cons, take-suc, set_at}
 use Rattle.ground.specs.Buffers.{over, byte_of}
@@ -110,16 +109,16 @@ module _ (bytes numbers : List ℕ) (n : ℕ) (clip out : List ℕ) (a : HasCode
     pub ran_bad : bad ≡ true → Ran.Refused Refusal.BadClip ≡ ran_of (read_code bytes) clip out
     ran_bad e = rw (a.is, ← test, e)
 
-    pub ran_short : bad ≡ false → ltb (length out) (length clip) ≡ true → Ran.Refused Refusal.ShortOutput ≡ ran_of (read_code bytes) clip out
-    ran_short e short = rw (a.is, ← test, e, short)
+    pub ran_short : bad ≡ false → length out < length clip → Ran.Refused Refusal.ShortOutput ≡ ran_of (read_code bytes) clip out
+    ran_short e short = rw (a.is, ← test, e, lt-ltb (length out) (length clip) short)
 
-    module _ (fit : bad ≡ false) (room : ltb (length out) (length clip) ≡ false) where
+    module _ (fit : bad ≡ false) (room : length clip ≤ length out) where
       pub ready_loads : CanRun (take (per_instruction * n) numbers) clip out
       ready_loads =
-          record { sound = a.sound; room = ltb-false (length out) (length clip) room }
+          record { sound = a.sound; room = room }
 
       pub ran_done : Ran.Done ≡ ran_of (read_code bytes) clip out
-      ran_done = rw (a.is, ← test, fit, room)
+      ran_done = rw (a.is, ← test, fit, le-ltb (length out) (length clip) room)
 
       pub ran_all : (out' : List ℕ) → out' ≡ over (verdicts (code_as (take (per_instruction * n) numbers)) clip) out
           → out' ≡ buffer_after Ran.Done (code_of (read_code bytes)) clip out
@@ -138,5 +137,5 @@ verdict_at code (x ∷ c) (suc i) h = verdict_at code c i (omega arith)
 
 pub verdicts_length : (code : Code) (clip : Clip) → length (verdicts code clip) ≡ length clip
 unfolding verdicts
-verdicts_length code [] = refl
-verdicts_length code (x ∷ c) = ap suc (verdicts_length code c)
+verdicts_length own [] = refl
+verdicts_length own (x ∷ c) = ap suc (verdicts_length own c)

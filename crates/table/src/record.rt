@@ -75,7 +75,7 @@ fn half_of(counter: u16, which: usize) -> u8
 // One of the bytes that keep registers, by its place.
 fn key_byte(counters: &[u16], delays: &[bool], j: usize) -> u8
     requires { Whole (record { counters = counters.now; delays = delays.now }) × (j < key_bytes) }
-    ensures { result ≡ key_byte (record { counters = counters.entry.now; delays = delays.now }) j }
+    ensures { result ≡ key_byte (record { counters = counters.now; delays = delays.now }) j }
 {
     if j < COUNTER_BYTES {
         return half_of(counters[j / COUNTER], j % COUNTER);
@@ -109,7 +109,7 @@ fn eight(a: u8, b: u8, c: u8, d: u8, e: u8, f: u8, g: u8, h: u8) -> u64
 // One of the words that keep registers.
 fn key_word(counters: &[u16], delays: &[bool], i: usize) -> u64
     requires { Whole (record { counters = counters.now; delays = delays.now }) × ((i + 1) * word_bytes ≤ key_bytes) }
-    ensures { KeyWord (record { counters = counters.entry.now; delays = delays.now }) i result }
+    ensures { KeyWord (record { counters = counters.now; delays = delays.now }) i result }
 {
     let at = WORD * i;
     eight(

@@ -8,7 +8,6 @@ use Rattle.ground.specs.declared.refusal.Refusal.{Refusal}
 use Rattle.code.specs.Loading.{code_too_large}
 use Rattle.code.specs.Inner.Rows.{counted_row, check_row}
 use Rattle.code.specs.declared.check.CheckedInstruction.{CheckedInstruction}
-use borrow.Author.Rules.{rules}
 use Rattle.code.proofs.check.check.Goals as goal
 
 pub returns-then-row-gt-MOST_FLAG : goal.returns-then-row-gt-MOST_FLAG

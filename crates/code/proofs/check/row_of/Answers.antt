@@ -3,7 +3,6 @@ use native.Mathlib.Omega.{arith}
 use mathlib.Core.Path.{◌≡◌, ◌∙◌}
 use Prim.Native.Nat.{max}
 use Rattle.code.proofs.Instructions.{is_one, is_flag, is_nand, is_reach, is_later}
-use borrow.Author.Rules.{rules}
 use Rattle.code.proofs.check.row_of.Goals as goal
 
 pub returns-in-1 : goal.returns-in-1

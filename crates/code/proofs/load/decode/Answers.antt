@@ -1,8 +1,6 @@
 -- `decode` meets its contract. The loop's invariant is `CodeTurn`, and each way out of a turn is one of its laws. The measure is how many bytes are left.
-use borrow.Author.Rules.{rules}
 use native.Mathlib.Omega.{arith}
-use Prim.Native.Nat.{◌+◌, ◌-◌, ◌≤◌, ◌<◌}
-use lib.ListN.{length}
+use Prim.Native.Nat.{◌+◌, ◌≤◌, ◌<◌}
 use mathlib.Core.Path.{◌≡◌, sym, ap, ◌∙◌}
 use Rattle.ground.specs.Buffers.{AllBytes}
 use Rattle.reading.specs.Items.{item_at}
@@ -13,7 +11,7 @@ use Rattle.reading.proofs.InTurn.{forward, item_inside, none_refused}
 use Rattle.code.specs.Loading.{code_kind, program_of}
 use Rattle.code.specs.Inner.Rows.{check_row}
 use Rattle.code.specs.declared.check.CheckedInstruction.{CheckedInstruction}
-use Rattle.code.proofs.Turns.{CodeTurn, turn_first, turn_end, turn_refused, turn_checked, turn_room, turn_more}
+use Rattle.code.proofs.Turns.{turn_first, turn_end, turn_refused, turn_checked, turn_room, turn_more}
 use Rattle.code.proofs.load.decode.Goals as goal
 
 pub returns-then-bytes-eq0 : goal.returns-then-bytes-eq0
@@ -56,7 +54,7 @@ bounds-numbers-base-in-Next-3 c =
 
 pub loop-code-smaller : goal.loop-code-smaller
 loop-code-smaller c =
-    let all_bytes : AllBytes c.args.bytes.now = λ i. omega (arith, c.shared_slice_known-1.given i) in
+    let all_bytes : AllBytes c.args.bytes.now = λ i. omega (arith, c.type_inv.bytes i) in
     let is_item : Read.Item c.in-Item.code c.in-Item.first c.in-Item.second c.in-Item.third c.in-Item.next
     ≡ item_at Table.Code c.args.bytes.now c.loop-code.at = sym c.in-Item.is ∙ c.read_item.ensures in
     let read_on : c.loop-code.at < c.in-Item.next = forward _ _ _ _ _ _ _ _ (all_bytes) (is_item) in
@@ -67,7 +65,7 @@ loop-code-preserved c =
     let is_item : Read.Item c.in-Item.code c.in-Item.first c.in-Item.second c.in-Item.third c.in-Item.next
     ≡ item_at Table.Code c.args.bytes.now c.loop-code.at = sym c.in-Item.is ∙ c.read_item.ensures in
     let is_next : CheckedInstruction.Next c.in-Next.more ≡ check_row c.loop-code.counts c.loop-code.at c.row_of.result = sym c.in-Next.is ∙ c.check.ensures in
-    let all_bytes : AllBytes c.args.bytes.now = λ i. omega (arith, c.shared_slice_known-1.given i) in
+    let all_bytes : AllBytes c.args.bytes.now = λ i. omega (arith, c.type_inv.bytes i) in
     turn_more _ _ _ _ c.loop-code.invariant _ _ _ _ _ (is_item) _ c.row_of.ensures _ (is_next)
     (all_bytes) _ _ _ _ (omega arith)
 

@@ -1,7 +1,6 @@
 -- `load_code` meets its contract: it is the answer that `decode` keeps.
 use mathlib.Core.Path.{ap}
 use Rattle.code.specs.Loading.{program_of}
-use borrow.Author.Rules.{rules}
 use Rattle.code.proofs.load.load_code.Goals as goal
 
 pub returns : goal.returns

@@ -7,7 +7,6 @@ use mathlib.Core.Bool.{cond}
 use Rattle.ground.specs.declared.refusal.Refusal.{Refusal}
 use Rattle.rules.specs.Loading.{check_item}
 use Rattle.rules.specs.declared.check.CheckedItem.{CheckedItem}
-use borrow.Author.Rules.{rules}
 use Rattle.rules.proofs.check.check.Goals as goal
 
 pub returns-then-row-gt-MOST_FLAG : goal.returns-then-row-gt-MOST_FLAG

@@ -1,7 +1,6 @@
 -- `counted` meets its contract: no sum is large, as the counts are within the limits.
 use mathlib.Core.Path.{refl}
 use Rattle.rules.specs.Loading.{rule_counted}
-use borrow.Author.Rules.{rules}
 use Rattle.rules.proofs.check.counted.Goals as goal
 
 pub returns : goal.returns

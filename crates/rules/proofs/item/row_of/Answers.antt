@@ -1,5 +1,4 @@
 -- `row_of` meets its contract: in each arm the item is known, and it is that of its code byte with its flag and its bounds.
-use borrow.Author.Rules.{rules}
 use Rattle.rules.specs.Items.{item_of}
 use Rattle.rules.proofs.item.row_of.Goals as goal
 

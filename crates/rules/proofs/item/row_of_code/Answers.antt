@@ -1,5 +1,4 @@
 -- `row_of_code` meets its contract: in each arm the code byte is a number, at which `item_of` computes; in the last it is none of the others.
-use borrow.Author.Rules.{rules}
 use borrow.Author.Tests.{ne_eqb}
 use mathlib.Core.Path.{◌∙◌}
 use Rattle.rules.specs.Items.{item_of}

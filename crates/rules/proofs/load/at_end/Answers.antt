@@ -2,7 +2,6 @@
 use mathlib.Core.Path.{◌∙◌, ap}
 use Rattle.rules.specs.Loading.{rule_of}
 use Rattle.rules.proofs.Gathering.{found_not_one, found_one}
-use borrow.Author.Rules.{rules}
 use Rattle.rules.proofs.load.at_end.Goals as goal
 
 pub returns-then-gathered-ne1 : goal.returns-then-gathered-ne1

@@ -1,16 +1,14 @@
 -- `decode` meets its contract. The loop's invariant is `RuleTurn`, and each way out of a turn is one of its laws. The measure is how many bytes are left.
-use borrow.Author.Rules.{rules}
 use native.Mathlib.Omega.{arith}
-use Prim.Native.Nat.{◌-◌, ◌<◌}
+use Prim.Native.Nat.{◌<◌}
 use Rattle.ground.specs.Buffers.{AllBytes}
 use Rattle.reading.specs.Items.{item_at}
 use Rattle.reading.specs.declared.item.Read.{Read}
 use Rattle.reading.specs.declared.item.Table.{Table}
-use lib.ListN.{length}
 use mathlib.Core.Path.{◌≡◌, sym, ap, ◌∙◌}
 use Rattle.reading.proofs.InTurn.{forward, item_inside}
 use Rattle.rules.specs.Loading.{rule_of}
-use Rattle.rules.proofs.Turns.{RuleTurn, empty_rule, turn_first, turn_end, turn_refused, turn_checked, turn_ready, turn_more}
+use Rattle.rules.proofs.Turns.{empty_rule, turn_first, turn_end, turn_refused, turn_checked, turn_ready, turn_more}
 use Rattle.rules.proofs.load.decode.Goals as goal
 
 pub returns-then-bytes-eq0 : goal.returns-then-bytes-eq0
@@ -30,7 +28,7 @@ pub loop-code-smaller : goal.loop-code-smaller
 loop-code-smaller c =
     let is_item : Read.Item c.in-Item.code c.in-Item.first c.in-Item.second c.in-Item.third c.in-Item.next
     ≡ item_at Table.Rule c.args.bytes.now c.loop-code.at = sym c.in-Item.is ∙ c.read_item.ensures in
-    let read_on : c.loop-code.at < c.in-Item.next = let small : AllBytes c.args.bytes.now = λ i. omega (arith, c.shared_slice_known-1.given i) in
+    let read_on : c.loop-code.at < c.in-Item.next = let small : AllBytes c.args.bytes.now = λ i. omega (arith, c.type_inv.bytes i) in
     forward _ _ _ _ _ _ _ _ small (is_item) in
     omega (arith, read_on, item_inside _ _ _ _ _ _ _ _ (is_item))
 
@@ -38,7 +36,7 @@ pub loop-code-preserved : goal.loop-code-preserved
 loop-code-preserved c =
     let is_item : Read.Item c.in-Item.code c.in-Item.first c.in-Item.second c.in-Item.third c.in-Item.next
     ≡ item_at Table.Rule c.args.bytes.now c.loop-code.at = sym c.in-Item.is ∙ c.read_item.ensures in
-    let read_on : c.loop-code.at < c.in-Item.next = let small : AllBytes c.args.bytes.now = λ i. omega (arith, c.shared_slice_known-1.given i) in
+    let read_on : c.loop-code.at < c.in-Item.next = let small : AllBytes c.args.bytes.now = λ i. omega (arith, c.type_inv.bytes i) in
     forward _ _ _ _ _ _ _ _ small (is_item) in
     let t = c.loop-code.invariant in
     let row = c.row_of_code-row.ensures in

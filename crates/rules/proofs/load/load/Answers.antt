@@ -1,7 +1,6 @@
 -- `load` meets its contract: it is the answer that `decode` keeps.
 use mathlib.Core.Path.{ap}
 use Rattle.rules.specs.Loading.{rule_of}
-use borrow.Author.Rules.{rules}
 use Rattle.rules.proofs.load.load.Goals as goal
 
 pub returns : goal.returns

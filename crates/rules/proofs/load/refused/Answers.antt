@@ -1,7 +1,6 @@
 -- `refused` meets its contract: where nothing is gathered no item is kept.
 use mathlib.Core.Path.{◌∙◌}
 use Rattle.rules.proofs.Gathering.{found_refused}
-use borrow.Author.Rules.{rules}
 use Rattle.rules.proofs.load.refused.Goals as goal
 
 pub returns : goal.returns

@@ -1,10 +1,7 @@
 -- `frame_through` meets its contract. The loop's invariant is `Executing`: what stands in the lent arrays is what a step has made of the instructions so far.
 -- The measure is how many instructions are left.
 use native.Mathlib.Omega.{arith}
-use Prim.Native.Nat.{◌-◌, ◌≤◌}
-use Rattle.code.specs.Programs.{count_in}
-use Rattle.sequencer.specs.Inner.Through.{lent, Fits}
-use Rattle.sequencer.proofs.Through.{Executing, through_first, can_execute, through_more, all_written, through_all}
+use Rattle.sequencer.proofs.Through.{through_first, can_execute, through_more, all_written, through_all}
 use Rattle.sequencer.proofs.frame.frame_through.Goals as goal
 
 pub loop-n-init : goal.loop-n-init
@@ -15,11 +12,11 @@ execute-taken-requires c = can_execute _ _ _ c.loop-n.invariant.0 c.loop-n.invar
 
 pub loop-n-preserved : goal.loop-n-preserved
 loop-n-preserved c = (
-      c.loop-n.invariant.0,
-      omega arith,
-      through_more _ _ _ c.loop-n.invariant.0 c.loop-n.invariant.2 _ _ c.execute-taken.ensures
-          (record { counters = c.counters-1.given; delays = c.delays-1.given; bits = c.bits-1.given }),
-    )
+  c.loop-n.invariant.0,
+  omega arith,
+  through_more _ _ _ c.loop-n.invariant.0 c.loop-n.invariant.2 _ _ c.execute-taken.ensures
+      (record { counters = c.counters-1.given; delays = c.delays-1.given; bits = c.bits-1.given }),
+)
 
 pub bounds-bits-count : goal.bounds-bits-count
 bounds-bits-count c = let (f, h, w) = c.loop-n.invariant in

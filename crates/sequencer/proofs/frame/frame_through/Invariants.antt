@@ -1,10 +1,9 @@
 -- `frame_through` meets its contract. The loop's invariant is `Executing`: what stands in the lent arrays is what a step has made of the instructions so far.
 -- The measure is how many instructions are left.
-use native.Mathlib.Omega.{arith}
 use Prim.Native.Nat.{◌-◌, ◌≤◌}
 use Rattle.code.specs.Programs.{count_in}
 use Rattle.sequencer.specs.Inner.Through.{lent, Fits}
-use Rattle.sequencer.proofs.Through.{Executing, through_first, can_execute, through_more, all_written, through_all}
+use Rattle.sequencer.proofs.Through.{Executing}
 use Rattle.sequencer.proofs.frame.frame_through.Given as goal
 
 abbrev pub invariant-loop-n : goal.invariant-loop-n

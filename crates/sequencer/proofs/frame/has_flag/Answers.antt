@@ -1,7 +1,6 @@
 -- `has_flag` meets its contract: shifting right by k is dividing by 2 to the power k.
 use mathlib.Core.Path.{refl}
 use Rattle.ground.specs.Frames.{has_flag}
-use borrow.Author.Rules.{rules}
 use Rattle.sequencer.proofs.frame.has_flag.Goals as goal
 
 pub returns : goal.returns

@@ -1,8 +1,6 @@
 -- `next_counter` meets its contract: its tests tell the cases of the definition apart.
 use native.Mathlib.Omega.{arith}
-use borrow.Author.Tests.{not-true, not-false}
 use Rattle.sequencer.proofs.Next.{next_hit, next_off, next_none, next_past, next_rise}
-use borrow.Author.Rules.{rules}
 use Rattle.sequencer.proofs.frame.next_counter.Goals as goal
 
 pub returns-then-j : goal.returns-then-j

@@ -1,9 +1,8 @@
 -- `shift_in` meets its contract. The loop's invariant: up to p the line has moved (`moved`). The measure is how far p is from the last bit.
 use native.Mathlib.Omega.{arith}
-use Prim.Native.Nat.{◌+◌, ◌-◌, ◌≤◌}
-use mathlib.Core.Path.{◌≡◌, ap, ◌∙◌}
-use lib.ListN.{length, length-set}
-use Rattle.sequencer.proofs.Shifting.{moved, moved_none, moved_length, moved_more, shifted_moved}
+use Prim.Native.Nat.{◌+◌, ◌-◌}
+use mathlib.Core.Path.{◌≡◌}
+use Rattle.sequencer.proofs.Shifting.{moved_none, moved_more, shifted_moved}
 use Rattle.sequencer.proofs.frame.shift_in.Goals as goal
 
 pub loop-p-init : goal.loop-p-init
@@ -11,10 +10,10 @@ loop-p-init c = (moved_none _ _, omega arith, omega arith)
 
 pub loop-p-preserved : goal.loop-p-preserved
 loop-p-preserved c = (
-      rw c.loop-p.invariant.0 (moved_more c.args.delays.now c.args.at c.loop-p.p (omega arith) (omega arith) _),
-      omega arith,
-      omega arith,
-    )
+  rw c.loop-p.invariant.0 (moved_more c.args.delays.now c.args.at c.loop-p.p (omega arith) (omega arith) _),
+  omega arith,
+  omega arith,
+)
 
 -- NO GOAL FOR same_length
 -- same_length : tie.Need-same-length invariant-loop decreases-loop

@@ -1,9 +1,7 @@
 -- `shift_in` meets its contract. The loop's invariant: up to p the line has moved (`moved`). The measure is how far p is from the last bit.
-use native.Mathlib.Omega.{arith}
-use Prim.Native.Nat.{◌+◌, ◌-◌, ◌≤◌}
-use mathlib.Core.Path.{◌≡◌, ap, ◌∙◌}
-use lib.ListN.{length, length-set}
-use Rattle.sequencer.proofs.Shifting.{moved, moved_none, moved_length, moved_more, shifted_moved}
+use Prim.Native.Nat.{◌-◌, ◌≤◌}
+use mathlib.Core.Path.{◌≡◌}
+use Rattle.sequencer.proofs.Shifting.{moved}
 use Rattle.sequencer.proofs.frame.shift_in.Given as goal
 
 abbrev pub invariant-loop-p : goal.invariant-loop-p

@@ -5,50 +5,46 @@ use mathlib.Core.Path.{refl, sym}
 use Rattle.ground.specs.Buffers.{AllBytes}
 use Rattle.code.proofs.Accepted.{HasCode, ready, not_ready}
 use Rattle.sequencer.proofs.Running.{ran_bad, ran_short, ready_loads, ran_done, ran_all, ran_refused}
-use borrow.Author.Rules.{rules}
 use Rattle.sequencer.proofs.run.run.Goals as goal
 
 pub returns-then-bad : goal.returns-then-bad
 returns-then-bad c =
-    let (p0, p1) = let is_ready : HasCode c.args.code.now c.decode-program.result.numbers c.in-Accepted.count = let small : AllBytes c.args.code.now = λ i. omega (arith, c.shared_slice_known-1.given i) in
+    let is_ready : HasCode c.args.code.now c.decode-program.result.numbers c.in-Accepted.count = let small : AllBytes c.args.code.now = λ i. omega (arith, c.type_inv.code i) in
     ready _ _ _ small c.decode-program.ensures (sym c.in-Accepted.is) in
-    (ran_bad _ _ _ _ _ (is_ready) _ c.bad_clip-bad.ensures c.if-bad.true, refl) in
-    record { answer = p0; buffer = p1 }
+    record { answer = ran_bad _ _ _ _ _ (is_ready) _ c.bad_clip-bad.ensures c.if-bad.true; buffer = refl }
 
 pub returns-then-short : goal.returns-then-short
 returns-then-short c =
-    let (p0, p1) = let is_ready : HasCode c.args.code.now c.decode-program.result.numbers c.in-Accepted.count = let small : AllBytes c.args.code.now = λ i. omega (arith, c.shared_slice_known-1.given i) in
+    let is_ready : HasCode c.args.code.now c.decode-program.result.numbers c.in-Accepted.count = let small : AllBytes c.args.code.now = λ i. omega (arith, c.type_inv.code i) in
     ready _ _ _ small c.decode-program.ensures (sym c.in-Accepted.is) in
-    (ran_short _ _ _ _ _ (is_ready) _ c.bad_clip-bad.ensures c.if-bad.false c.if-short.true, refl) in
-    record { answer = p0; buffer = p1 }
+    record { answer = ran_short _ _ _ _ _ (is_ready) _ c.bad_clip-bad.ensures c.if-bad.false c.if-short.true; buffer = refl }
 
 pub overflow_mul-length : goal.overflow_mul-length
 overflow_mul-length c =
-    let is_ready : HasCode c.args.code.now c.decode-program.result.numbers c.in-Accepted.count = let small : AllBytes c.args.code.now = λ i. omega (arith, c.shared_slice_known-1.given i) in
+    let is_ready : HasCode c.args.code.now c.decode-program.result.numbers c.in-Accepted.count = let small : AllBytes c.args.code.now = λ i. omega (arith, c.type_inv.code i) in
     ready _ _ _ small c.decode-program.ensures (sym c.in-Accepted.is) in
     omega (arith, (is_ready).many)
 
 pub slice_bounds-run_frames-end : goal.slice_bounds-run_frames-end
 slice_bounds-run_frames-end c =
-    let is_ready : HasCode c.args.code.now c.decode-program.result.numbers c.in-Accepted.count = let small : AllBytes c.args.code.now = λ i. omega (arith, c.shared_slice_known-1.given i) in
+    let is_ready : HasCode c.args.code.now c.decode-program.result.numbers c.in-Accepted.count = let small : AllBytes c.args.code.now = λ i. omega (arith, c.type_inv.code i) in
     ready _ _ _ small c.decode-program.ensures (sym c.in-Accepted.is) in
     omega (arith, (is_ready).inside)
 
 pub run_frames-requires : goal.run_frames-requires
 run_frames-requires c =
-    let is_ready : HasCode c.args.code.now c.decode-program.result.numbers c.in-Accepted.count = let small : AllBytes c.args.code.now = λ i. omega (arith, c.shared_slice_known-1.given i) in
+    let is_ready : HasCode c.args.code.now c.decode-program.result.numbers c.in-Accepted.count = let small : AllBytes c.args.code.now = λ i. omega (arith, c.type_inv.code i) in
     ready _ _ _ small c.decode-program.ensures (sym c.in-Accepted.is) in
     rw sub-zero (ready_loads _ _ _ _ _ (is_ready) _ c.bad_clip-bad.ensures c.if-bad.false c.if-short.false)
 
 pub returns-else-short : goal.returns-else-short
 returns-else-short c =
-    let (p0, p1) = let is_ready : HasCode c.args.code.now c.decode-program.result.numbers c.in-Accepted.count = let small : AllBytes c.args.code.now = λ i. omega (arith, c.shared_slice_known-1.given i) in
+    let is_ready : HasCode c.args.code.now c.decode-program.result.numbers c.in-Accepted.count = let small : AllBytes c.args.code.now = λ i. omega (arith, c.type_inv.code i) in
     ready _ _ _ small c.decode-program.ensures (sym c.in-Accepted.is) in
-    let a = is_ready in (
-      ran_done _ _ _ _ _ a _ c.bad_clip-bad.ensures c.if-bad.false c.if-short.false,
-      ran_all _ _ _ _ _ a _ c.bad_clip-bad.ensures c.if-bad.false c.if-short.false _ (rw sub-zero at c.run_frames.ensures),
-    ) in
-    record { answer = p0; buffer = p1 }
+    record {
+      answer = ran_done _ _ _ _ _ is_ready _ c.bad_clip-bad.ensures c.if-bad.false c.if-short.false;
+      buffer = ran_all _ _ _ _ _ is_ready _ c.bad_clip-bad.ensures c.if-bad.false c.if-short.false _ (rw sub-zero at c.run_frames.ensures);
+    }
 
 pub returns-in-Refused : goal.returns-in-Refused
 returns-in-Refused c =

@@ -1,11 +1,6 @@
 -- `run_frames` meets its contract. The loop's invariant is `Runs`: one frame more is one step. The measure is how many frames are not read yet.
-use borrow.Author.Rules.{rules}
 use native.Mathlib.Omega.{arith}
-use mathlib.Core.Path.{sym}
-use Prim.Native.Nat.{◌-◌}
-use lib.ListN.{length}
-use Rattle.sequencer.proofs.Running.{Runs, runs_first, runs_fits, runs_more, runs_all}
-use Rattle.sequencer.specs.Inner.Through.{lent, CanRun}
+use Rattle.sequencer.proofs.Running.{runs_first, runs_more}
 use Rattle.sequencer.proofs.run.run_frames.Goals as goal
 
 pub loop-read-init : goal.loop-read-init

@@ -9,7 +9,6 @@ use Rattle.text.specs.Digits.{decimal}
 use Rattle.text.proofs.Before.{before_fit, before_unfit}
 use Rattle.text.proofs.Decimal.{one_long}
 use Rattle.text.proofs.Writing.{puts_more}
-use borrow.Author.Rules.{rules}
 use Rattle.text.proofs.digits.write_first.Goals as goal
 
 pub returns-then-room-more : goal.returns-then-room-more
@@ -25,6 +24,6 @@ returns-then-room-more-2 c =
 pub returns : goal.returns
 returns c =
     let both_long : length (c.args.word.now ++ decimal c.args.n) ≡ length c.args.word.now + 1 = rw (length-append, one_long c.args.n c.requires) in
-    before_fit _ _ _ _ (omega (arith, both_long, room))
-    (puts_more c.args.text.now c.args.at c.args.word.now (decimal c.args.n) (omega (arith, both_long, room))
+    before_fit _ _ _ _ (omega (arith, both_long))
+    (puts_more c.args.text.now c.args.at c.args.word.now (decimal c.args.n) (omega (arith, both_long))
     (c.write_bytes-place.ensures.buffer, c.write_bytes-place.ensures.place) c.write_digit.ensures)
