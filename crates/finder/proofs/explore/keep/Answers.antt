@@ -1,0 +1,26 @@
+-- `keep` meets its contract: what the look-up and the store leave is one of the three turns of a trial that does not satisfy.
+-- the number of the state and one more is a link
+use mathlib.Core.Path.{subst}
+use Prim.Native.Nat.{◌+◌, ◌≤◌}
+use native.Mathlib.Omega.{arith}
+use Rattle.ground.specs.Limits.{limits}
+use Rattle.table.specs.Inner.Tables.{Looks}
+use Rattle.table.specs.declared.Look.{Look}
+use Rattle.finder.proofs.Turns.{filled, can_store, state_most, keeping_known, keeping_full, keeping_new}
+use borrow.Author.Rules.{rules}
+use Rattle.finder.proofs.explore.keep.Goals as goal
+
+pub returns-then-table-kept : goal.returns-then-table-kept
+returns-then-table-kept c =
+    let nowhere : Looks c.args.table.now c.args.kept.stored c.args.registers Look.Nowhere = subst (Looks _ _ _) c.in-Nowhere.is (c.find.ensures _ (filled c.requires.2.exploring)) in
+    keeping_full _ _ _ _ _ (nowhere) (omega (arith, c.if-table-kept.true))
+
+pub returns-in-At : goal.returns-in-At
+returns-in-At c =
+    let known = c.find.ensures _ (filled c.requires.2.exploring) in
+    keeping_known _ _ _ _ _ _ (subst (Looks _ _ _) c.in-At.is known)
+
+pub returns-else-table-kept : goal.returns-else-table-kept
+returns-else-table-kept c =
+    let nowhere : Looks c.args.table.now c.args.kept.stored c.args.registers Look.Nowhere = subst (Looks _ _ _) c.in-Nowhere.is (c.find.ensures _ (filled c.requires.2.exploring)) in
+    keeping_new _ _ _ _ _ (nowhere) (omega (arith, c.if-table-kept.false)) _ c.store.ensures
