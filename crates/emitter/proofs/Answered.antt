@@ -6,7 +6,7 @@ use mathlib.Core.List.{List, [], ◌∷◌, ◌++◌, append-nil}
 use Prim.Native.Nat.{ℕ, suc, ◌+◌, ◌*◌, ◌≤◌, ◌<◌}
 use native.Mathlib.Omega.{arith}
 use lib.ListN.{length, get_or, take, drop, length-append, length-take, take-append-drop}
-use lib.Seq.{take-suc, take_at, take-length}
+use lib.Seq.{take-suc, take_at}
 use Rattle.ground.specs.Buffers.{AllBytes, too_short, over}
 use Rattle.ground.specs.Limits.{limits, most_code_bytes}
 use Rattle.ground.specs.declared.refusal.Refusal.{Refusal}

@@ -1,10 +1,8 @@
 -- `clear` meets its contract. The loop's invariant: the bytes in front of i are 0, and the others are as before. The measure is how many bytes are left.
 use Prim.Native.Nat.{◌-◌, ◌≤◌}
-use native.Mathlib.Omega.{arith}
-use mathlib.Core.Path.{◌≡◌, ◌∙◌}
-use mathlib.Core.List.{◌++◌, append-nil}
-use borrow.Author.Fill.{fill_none, fill_more}
-use lib.ListN.{length, drop, replicate, length-set, drop_of_length-le}
+use mathlib.Core.Path.{◌≡◌}
+use mathlib.Core.List.{◌++◌}
+use lib.ListN.{length, drop, replicate}
 use Rattle.table.proofs.clear.Given as goal
 
 abbrev pub invariant-loop-i : goal.invariant-loop-i

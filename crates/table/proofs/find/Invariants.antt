@@ -1,8 +1,6 @@
 -- `find` meets its contract. The loop's invariant: the walk down the chain of the key's bucket is at the record before at (`Looking`). The measure is at, since
 -- a chain goes down.
-use borrow.Author.Rules.{rules}
-use native.Mathlib.Omega.{arith}
-use Rattle.table.proofs.Tables.{Looking, looking_first, looking_inside, looking_less, looking_more, looks_at, looks_nowhere}
+use Rattle.table.proofs.Tables.{Looking}
 use Rattle.table.proofs.find.Given as goal
 
 abbrev pub invariant-loop-at : goal.invariant-loop-at

@@ -1,5 +1,4 @@
 -- `store` meets its contract: what is written into the parts that it lends is put in the place of the record, and of the record that tells its bucket's head.
-use borrow.Author.Rules.{rules}
 use Rattle.table.proofs.Tables.{part_record, stores}
 use Rattle.table.proofs.store.Goals as goal
 

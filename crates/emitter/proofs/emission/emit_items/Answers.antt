@@ -1,12 +1,9 @@
 -- `emit_items` meets its contract. The loop's invariant is `EmittedTo`: the buffer holds the code of the items so far. The measure is how many items are to
 -- come.
 use mathlib.Core.Path.{refl}
-use Prim.Native.Nat.{◌-◌, ◌≤◌}
 use native.Mathlib.Omega.{arith}
-use borrow.Author.Rules.{rules}
 use Rattle.rules.specs.Loaded.{item_in}
-use Rattle.emitter.specs.Inner.Emission.{CanEmit}
-use Rattle.emitter.proofs.InOrder.{EmittedTo, stands_first, stands_next, stands_more, stands_length, stands_all}
+use Rattle.emitter.proofs.InOrder.{stands_first, stands_next, stands_more, stands_all}
 use Rattle.emitter.proofs.emission.emit_items.Goals as goal
 
 pub loop-k-init : goal.loop-k-init

@@ -1,6 +1,5 @@
 -- `emit_next` meets its contract: the operands are the bits on top, and the item's own last bit takes their place.
 use Rattle.emitter.proofs.InOrder.{next_ready, next_bit, next_wrote}
-use borrow.Author.Rules.{rules}
 use Rattle.emitter.proofs.emission.emit_next.Goals as goal
 
 pub emit_item-end-requires : goal.emit_item-end-requires

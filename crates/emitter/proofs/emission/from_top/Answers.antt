@@ -1,6 +1,5 @@
 -- `from_top` meets its contract: where there are so many bits, the one it reads is the one meant.
 use Rattle.emitter.proofs.InOrder.{none_there, one_there}
-use borrow.Author.Rules.{rules}
 use Rattle.emitter.proofs.emission.from_top.Goals as goal
 
 pub returns-then-depth-below : goal.returns-then-depth-below

@@ -6,8 +6,7 @@ use Rattle.rules.specs.Loaded.{LoadedFrom}
 use Rattle.rules.specs.declared.load.Rule.{Rule}
 use Rattle.rules.specs.declared.load.Loaded.{Loaded}
 use Rattle.rules.proofs.Loaded.{Accepts, accepts}
-use Rattle.emitter.proofs.Answered.{emits, part_inside, part_length, part_fits, answer_short, answer_length, answer_bytes, answer_refused}
-use borrow.Author.Rules.{rules}
+use Rattle.emitter.proofs.Answered.{emits, answer_short, answer_length, answer_bytes, answer_refused}
 use Rattle.emitter.proofs.emit.emit_rule.Goals as goal
 
 -- a rule that is accepted, by what it was loaded from

@@ -2,7 +2,6 @@
 use native.Mathlib.Omega.{arith}
 use mathlib.Core.Path.{refl}
 use Rattle.emitter.proofs.Behind.{one_room, eventually_room, eventually_wrote}
-use borrow.Author.Rules.{rules}
 use Rattle.emitter.proofs.item.emit_eventually.Goals as goal
 
 pub one-e-requires : goal.one-e-requires

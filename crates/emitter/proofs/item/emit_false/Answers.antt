@@ -4,7 +4,6 @@ use mathlib.Core.List.{[], ◌∷◌}
 use Rattle.code.specs.Code.{One}
 use Rattle.emitter.specs.Translation.{item_code}
 use Rattle.emitter.proofs.Behind.{room_first, not_room, not_wrote}
-use borrow.Author.Rules.{rules}
 use Rattle.emitter.proofs.item.emit_false.Goals as goal
 
 pub one-e-requires : goal.one-e-requires

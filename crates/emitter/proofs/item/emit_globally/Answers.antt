@@ -2,7 +2,6 @@
 use Rattle.code.specs.Code.{One}
 use Rattle.emitter.specs.Translation.{N, item_code}
 use Rattle.emitter.proofs.Behind.{then_not_timed, first_room, second_room, third_room, third_wrote}
-use borrow.Author.Rules.{rules}
 use Rattle.emitter.proofs.item.emit_globally.Goals as goal
 
 pub one-e-requires : goal.one-e-requires

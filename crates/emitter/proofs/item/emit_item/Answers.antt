@@ -2,7 +2,6 @@
 use Rattle.rules.specs.declared.item.Item.{Item}
 use Rattle.emitter.specs.Translation.{item_code}
 use Rattle.emitter.proofs.Behind.{item_ready, item_wrote}
-use borrow.Author.Rules.{rules}
 use Rattle.emitter.proofs.item.emit_item.Goals as goal
 
 pub one-requires : goal.one-requires

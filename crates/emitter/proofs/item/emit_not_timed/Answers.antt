@@ -1,7 +1,6 @@
 -- `emit_not_timed` meets its contract: a timed item's REACH and LATER, and N of what they leave.
 use Rattle.emitter.specs.Translation.{timed}
 use Rattle.emitter.proofs.Behind.{room_first, not_room, not_wrote, timed_some}
-use borrow.Author.Rules.{rules}
 use Rattle.emitter.proofs.item.emit_not_timed.Goals as goal
 
 pub timed-e-requires : goal.timed-e-requires

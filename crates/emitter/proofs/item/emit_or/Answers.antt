@@ -1,7 +1,6 @@
 -- `emit_or` meets its contract: two Ns, and NAND of the two.
 use Rattle.emitter.specs.Translation.{N, item_code}
 use Rattle.emitter.proofs.Behind.{then_nand, first_room, second_room, third_room, third_wrote}
-use borrow.Author.Rules.{rules}
 use Rattle.emitter.proofs.item.emit_or.Goals as goal
 
 pub nand-e-requires : goal.nand-e-requires

@@ -1,7 +1,6 @@
 -- `emit_release` meets its contract: two Ns, and a timed item's instructions by their numbers, inverted.
 use Rattle.emitter.specs.Translation.{N, item_code}
 use Rattle.emitter.proofs.Behind.{then_not_timed, first_room, second_room, third_room, third_wrote}
-use borrow.Author.Rules.{rules}
 use Rattle.emitter.proofs.item.emit_release.Goals as goal
 
 pub nand-e-requires : goal.nand-e-requires

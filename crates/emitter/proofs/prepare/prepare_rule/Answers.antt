@@ -1,10 +1,6 @@
 -- `prepare_rule` meets its contract: a length is answered of an accepted rule, whose code is loaded, and a refusal is the rule's own.
-use mathlib.Core.Path.{refl, sym, ◌∙◌}
-use native.Mathlib.Omega.{arith}
-use lib.ListN.{length-take}
-use Rattle.emitter.proofs.Answered.{length_fits}
+use mathlib.Core.Path.{refl}
 use Rattle.emitter.proofs.Preparing.{prepared_length, prepared_refused}
-use borrow.Author.Rules.{rules}
 use Rattle.emitter.proofs.prepare.prepare_rule.Goals as goal
 
 pub returns-in-Length : goal.returns-in-Length

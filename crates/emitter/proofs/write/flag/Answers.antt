@@ -2,7 +2,6 @@
 use mathlib.Core.Path.{refl}
 use Rattle.code.specs.Code.{Flag}
 use Rattle.emitter.proofs.Behind.{wrote}
-use borrow.Author.Rules.{rules}
 use Rattle.emitter.proofs.write.flag.Goals as goal
 
 pub returns : goal.returns

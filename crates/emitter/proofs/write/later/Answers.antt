@@ -2,7 +2,6 @@
 use mathlib.Core.Path.{refl}
 use Rattle.code.specs.Code.{Later}
 use Rattle.emitter.proofs.Behind.{wrote}
-use borrow.Author.Rules.{rules}
 use Rattle.emitter.proofs.write.later.Goals as goal
 
 pub returns : goal.returns

@@ -2,7 +2,6 @@
 use mathlib.Core.Path.{refl}
 use Rattle.code.specs.Code.{Nand}
 use Rattle.emitter.proofs.Behind.{wrote}
-use borrow.Author.Rules.{rules}
 use Rattle.emitter.proofs.write.nand.Goals as goal
 
 pub returns : goal.returns

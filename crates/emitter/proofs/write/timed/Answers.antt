@@ -1,7 +1,6 @@
 -- `timed` meets its contract: REACH, and LATER behind it where a is not 0.
 use native.Mathlib.Omega.{arith}
 use Rattle.emitter.proofs.Behind.{reach_room, reach_wrote, later_room, later_wrote}
-use borrow.Author.Rules.{rules}
 use Rattle.emitter.proofs.write.timed.Goals as goal
 
 pub reach-reached-requires : goal.reach-reached-requires

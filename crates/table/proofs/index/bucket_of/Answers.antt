@@ -1,11 +1,10 @@
 -- `bucket_of` meets its contract. The loop's invariant: the hash is that of the words passed. The measure is how many are left.
 use mathlib.Core.Path.{◌≡◌, refl}
-use Prim.Native.Nat.{◌-◌, ◌/◌, ◌≤◌, ◌<◌}
+use Prim.Native.Nat.{◌/◌}
 use native.Mathlib.Omega.{arith}
-use borrow.Author.Rules.{rules}
-use Rattle.table.specs.Inner.Index.{half_word, hashed, bucket_of}
-use Rattle.table.specs.Inner.Records.{key_bytes, word_bytes, byte_at}
-use Rattle.table.proofs.Words.{hashed_more, product_fits, bucket_below}
+use Rattle.table.specs.Inner.Index.{hashed, bucket_of}
+use Rattle.table.specs.Inner.Records.{key_bytes, word_bytes}
+use Rattle.table.proofs.Words.{hashed_more, bucket_below}
 use Rattle.table.proofs.index.bucket_of.Goals as goal
 
 pub loop-i-init : goal.loop-i-init

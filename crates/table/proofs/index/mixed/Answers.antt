@@ -1,5 +1,4 @@
 -- `mixed` meets its contract: the two halves of the word are stirred in, the low one first.
-use borrow.Author.Rules.{rules}
 use Rattle.table.specs.Inner.Index.{mixed}
 use Rattle.table.proofs.index.mixed.Goals as goal
 

@@ -1,7 +1,6 @@
 -- `stirred` meets its contract: the hash stays below half a word's values when it is turned, so the product fits a word.
 use mathlib.Core.Path.{refl}
 use native.Mathlib.Omega.{arith}
-use borrow.Author.Rules.{rules}
 use Rattle.table.specs.Inner.Index.{stirred}
 use Rattle.table.proofs.index.stirred.Goals as goal
 

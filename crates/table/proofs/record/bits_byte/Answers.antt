@@ -1,5 +1,4 @@
 -- `bits_byte` meets its contract: eight bits as a number are the first four and 16 times the last four.
-use borrow.Author.Rules.{rules}
 use Rattle.table.proofs.Records.{bits_eight}
 use Rattle.table.proofs.record.bits_byte.Goals as goal
 

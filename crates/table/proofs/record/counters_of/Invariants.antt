@@ -1,11 +1,7 @@
 -- `counters_of` meets its contract. The loop's invariant: the first i counters are read (`CountersOf`). The measure is how many are left.
-use mathlib.Core.Path.{refl}
 use Prim.Native.Nat.{◌-◌}
-use native.Mathlib.Omega.{arith}
-use borrow.Author.Rules.{rules}
 use Rattle.ground.specs.Limits.{limits}
 use Rattle.table.specs.Inner.Records.{CountersOf}
-use Rattle.table.proofs.Records.{counters_more}
 use Rattle.table.proofs.record.counters_of.Given as goal
 
 abbrev pub invariant-loop-i : goal.invariant-loop-i

@@ -1,6 +1,5 @@
 -- `key_byte` meets its contract, by the test whether the place is one of a counter's bytes.
 use mathlib.Core.Path.{◌∙◌, sym}
-use borrow.Author.Rules.{rules}
 use Rattle.table.proofs.Records.{key_counter, key_delays}
 use Rattle.table.proofs.record.key_byte.Goals as goal
 

@@ -1,10 +1,7 @@
 -- `key_of` meets its contract. The loop's invariant: the first i words are those of the registers (`KeyPart`). The measure is how many are left.
-use mathlib.Core.Path.{refl}
 use Prim.Native.Nat.{◌-◌, ◌/◌}
-use native.Mathlib.Omega.{arith}
-use borrow.Author.Rules.{rules}
 use Rattle.table.specs.Inner.Records.{key_bytes, word_bytes}
-use Rattle.table.proofs.Words.{KeyPart, part_more, part_all}
+use Rattle.table.proofs.Words.{KeyPart}
 use Rattle.table.proofs.record.key_of.Given as goal
 
 abbrev pub invariant-loop-i : goal.invariant-loop-i

@@ -1,11 +1,9 @@
 -- `key_word` meets its contract: what it puts together are the eight bytes of the word, each of which is a byte.
-use mathlib.Core.Path.{◌≡◌}
 use Prim.Native.Nat.{◌*◌}
 use native.Mathlib.Omega.{arith}
 use Rattle.sequencer.specs.declared.registers.Registers.{Registers}
-use Rattle.table.specs.Inner.Records.{key_byte, word_bytes, word_of}
+use Rattle.table.specs.Inner.Records.{key_byte, word_bytes}
 use Rattle.table.proofs.Words.{Eight, eight_each, word_eight}
-use borrow.Author.Rules.{rules}
 use Rattle.table.proofs.record.key_word.Goals as goal
 
 pub returns : goal.returns

@@ -1,10 +1,8 @@
 -- `same_key` meets its contract. The loop's invariant: the words passed are equal. The measure is how many are left.
-use mathlib.Core.Path.{◌≡◌, sym, ◌∙◌}
+use mathlib.Core.Path.{◌≡◌}
 use Prim.Native.Nat.{ℕ, ◌-◌, ◌/◌, ◌<◌}
-use native.Mathlib.Omega.{arith}
 use lib.ListN.{get_or}
 use Rattle.table.specs.Inner.Records.{key_bytes, word_bytes, word_of, byte_at}
-use Rattle.table.proofs.Records.{one_more}
 use Rattle.table.proofs.record.same_key.Given as goal
 
 abbrev pub invariant-loop-word : goal.invariant-loop-word

@@ -3,7 +3,6 @@ use mathlib.Core.Path.{◌∙◌}
 use Prim.Native.Nat.{◌*◌}
 use Rattle.table.specs.Inner.Records.{byte_at, word_bytes}
 use Rattle.table.proofs.Words.{word_eight}
-use borrow.Author.Rules.{rules}
 use Rattle.table.proofs.record.word_of.Goals as goal
 
 pub returns : goal.returns

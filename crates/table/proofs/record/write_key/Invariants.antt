@@ -1,9 +1,7 @@
 -- `write_key` meets its contract. The loop's invariant: the first j bytes are written (`Writes`). The measure is how many are left.
 use Prim.Native.Nat.{◌-◌}
-use native.Mathlib.Omega.{arith}
-use borrow.Author.Rules.{rules}
 use Rattle.table.specs.Inner.Records.{key_bytes}
-use Rattle.table.proofs.Records.{Writes, writes_first, writes_more, writes_all}
+use Rattle.table.proofs.Records.{Writes}
 use Rattle.table.proofs.record.write_key.Given as goal
 
 abbrev pub invariant-loop-j : goal.invariant-loop-j

@@ -1,0 +1,58 @@
+-- `explore` meets its contract. Before each length the search stands where `Tries` says, with a table as long as before. The measure is the records that are
+-- not behind it yet.
+use mathlib.Core.Path.{◌≡◌, refl, subst, ◌∙◌}
+use Prim.Native.Nat.{◌-◌, ◌≤◌}
+use native.Mathlib.Omega.{arith}
+use lib.ListN.{length}
+use Rattle.code.specs.Programs.{code_as}
+use Rattle.paths.proofs.Ends.{no_record}
+use Rattle.table.specs.Inner.Records.{room_in}
+use Rattle.finder.specs.Inner.Explore.{Exploring, Tries, TriedTo}
+use Rattle.finder.proofs.Naming.{passes_over}
+use borrow.Author.Rules.{rules}
+use Rattle.finder.proofs.Turns.{to_begin, to_next_length, to_none, to_no_room}
+use Rattle.finder.proofs.explore.explore.Goals as goal
+
+pub returns-then-table-eq0 : goal.returns-then-table-eq0
+returns-then-table-eq0 c = no_record _ _ _ (omega (arith, c.if-table-eq0.true))
+
+pub loop-passed-init : goal.loop-passed-init
+loop-passed-init c =
+    let some : 1 ≤ room_in c.args.table.now = let more : length c.args.table.now ≡ 0 → ⊥ = c.if-table-eq0.false in omega (arith, c.requires.holds.whole) in
+    (
+      record {
+        sound = c.requires.sound;
+        passes = passes_over _ _ _ c.named_flags-named.ensures c.passed_over-passed.ensures;
+        exploring = to_begin _ _ _ c.requires.holds c.requires.indexed (some) _ c.fresh.ensures c.store.ensures;
+      },
+      refl,
+    )
+
+-- NO GOAL FOR same_length
+-- same_length : tie.Need-same-length invariant-loop decreases-loop
+-- same_length c = as_long c.before
+
+-- NO GOAL FOR same-length-2
+-- same-length-2 : tie.Need-same-length-2 invariant-loop decreases-loop
+-- same-length-2 c = as_long c.before.before.before
+
+pub returns-then-kept : goal.returns-then-kept
+returns-then-kept c =
+    let tried_all : Exploring (code_as c.args.numbers.now) c.try_length-trials.new.1.1.0 c.loop-passed.ended 0 c.loop-passed.ended c.try_length-trials.result.kept = subst (TriedTo _ _ _ _ _ _) c.if-trials.false c.try_length-trials.ensures in
+    to_no_room (tried_all) c.loop-passed.invariant.0.sound.good refl c.if-kept.true
+
+-- NO GOAL FOR same-length-3
+-- same-length-3 : tie.Need-same-length-3 invariant-loop decreases-loop
+-- same-length-3 c = as_long c.before.before.before.before.before
+
+pub returns-then-kept-ended : goal.returns-then-kept-ended
+returns-then-kept-ended c =
+    let tried_all : Exploring (code_as c.args.numbers.now) c.try_length-trials.new.1.1.0 c.loop-passed.ended 0 c.loop-passed.ended c.try_length-trials.result.kept = subst (TriedTo _ _ _ _ _ _) c.if-trials.false c.try_length-trials.ensures in
+    to_none (tried_all) c.loop-passed.invariant.0.sound.good refl c.if-kept.false c.if-kept-ended.true
+
+pub loop-passed-preserved : goal.loop-passed-preserved
+loop-passed-preserved c =
+    let tried_all : Exploring (code_as c.args.numbers.now) c.try_length-trials.new.1.1.0 c.loop-passed.ended 0 c.loop-passed.ended c.try_length-trials.result.kept = subst (TriedTo _ _ _ _ _ _) c.if-trials.false c.try_length-trials.ensures in
+    let tries = c.loop-passed.invariant.0 in
+    let next = to_next_length (tried_all) refl c.if-kept.false in
+    (record { sound = tries.sound; passes = tries.passes; exploring = next }, c.table-in-loop-passed-1.given ∙ c.loop-passed.invariant.1)
