@@ -2,12 +2,14 @@
 #
 #   make                the archive and the driver
 #   make example        the driver's main job on the samples: a rule, a clip that passes and one that fails
+#   make programs       the repository's own programs, in target/bin
 #   make check-header   compiles the header alone as C99, C11 and C++
 #   make install        the header, the archive and the pkg-config file, below $(DESTDIR)$(PREFIX)
 #   make clean          removes the driver and what it wrote; the archive stays, as it takes minutes to prove
 #
-# The archive is made by Rattle's kit (rt), which proves the library first. An archive that is newer than the sources
-# needs no kit, and `make ARCHIVE=FILE` takes any other. Everything that is built goes below target/.
+# The archive and the programs are made by Rattle's kit (rt), which proves them first and leaves them in their crates'
+# folders out/; from there they are copied. What is newer than the sources needs no kit, and `make ARCHIVE=FILE` takes
+# any other archive. All else that is built goes below target/.
 
 VERSION = 0.6.0
 PREFIX ?= /usr/local
@@ -16,16 +18,34 @@ CFLAGS ?= -O2
 BUILT = target/staticlib/libthistlecart.a
 ARCHIVE = $(BUILT)
 DRIVER = target/driver/driver
-SOURCES := $(wildcard crates.txt) $(shell find crates -name '*.rt' -o -name '*.antt' 2>/dev/null)
+PROGRAMS = target/bin/standing target/bin/runs
+# What rt keeps in a crate's out/ is no source, though there are such files in it.
+SOURCES := $(wildcard crates.txt) \
+	$(shell find crates -name out -prune -o \( -name '*.rt' -o -name '*.antt' \) -print 2>/dev/null)
 WARNINGS = -Wall -Wextra -pedantic -Iinclude
 
-.PHONY: all example check-header install clean
+.PHONY: all example programs check-header install clean
 .DELETE_ON_ERROR:
 
 all: $(ARCHIVE) $(DRIVER)
 
 $(BUILT): $(SOURCES)
-	rt staticlib thistlecart
+	cd crates/thistlecart && rt lib
+	mkdir -p $(@D)
+	cp crates/thistlecart/out/$(@F) $@
+
+programs: $(PROGRAMS)
+
+target/bin/%:
+	mkdir -p $(@D)
+	cp $< $@
+
+target/bin/standing: crates/standing/out/standing
+target/bin/runs: crates/runs/out/runs
+
+# rt builds a program as it runs it. Both rt run and rt ci leave it here.
+crates/standing/out/standing crates/runs/out/runs: $(SOURCES)
+	cd crates/$(@F) && rt run <stdin >/dev/null
 	touch $@
 
 $(DRIVER): examples/driver.c include/thistlecart.h $(ARCHIVE)
