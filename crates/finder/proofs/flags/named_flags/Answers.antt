@@ -9,10 +9,7 @@ use Rattle.code.specs.Programs.{count_in}
 use Rattle.code.proofs.Flat.{at_flag}
 use Rattle.finder.proofs.Naming.{NamedTo, named_first, named_flag, named_other, named_all, flag_inside}
 use Rattle.finder.proofs.flags.named_flags.Goals as goal
-
--- NO GOAL FOR cast-named
--- cast-named : tie.Need-overflow-cast-named invariant-loop decreases-loop
--- cast-named c = omega (arith, c.shared-slice-known2.given (per_instruction * c.before.before.before.before.loop.n + 1))
+use Rattle.finder.proofs.flags.named_flags.Goals.{then-numbers-base-eq2, else-numbers-base-eq2}
 
 pub bounds-named-numbers : goal.bounds-named-numbers
 bounds-named-numbers c = flag_inside _ _ c.requires (omega arith) c.if-numbers-base-eq2.true
@@ -20,10 +17,12 @@ bounds-named-numbers c = flag_inside _ _ c.requires (omega arith) c.if-numbers-b
 pub loop-n-preserved : goal.loop-n-preserved
 loop-n-preserved c =
     let (named, whole) = c.loop-n.invariant in (
-      ⊎_elim
-          (λ t. rw t.2 (named_flag _ _ named _ (at_flag _ _ t.0.taken) (flag_inside _ _ c.requires (omega arith) t.0.taken)))
-          (λ t. rw t.1 (named_other _ _ named t.0.left))
-          c.if-numbers-base-eq2.branch,
+      elim c.if-numbers-base-eq2.branch [
+        then-numbers-base-eq2 w ↦
+            let taken = w.if-numbers-base-eq2.true in
+            rw w.named-is (named_flag _ _ named _ (at_flag _ _ taken) (flag_inside _ _ c.requires (omega arith) taken))
+        | else-numbers-base-eq2 w ↦ rw w.named-is (named_other _ _ named w.if-numbers-base-eq2.false)
+      ],
       whole,
     )
 
