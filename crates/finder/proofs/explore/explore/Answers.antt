@@ -1,15 +1,14 @@
 -- `explore` meets its contract. Before each length the search stands where `Tries` says, with a table as long as before. The measure is the records that are
 -- not behind it yet.
 use mathlib.Core.Path.{◌≡◌, refl, subst, ◌∙◌}
-use Prim.Native.Nat.{◌-◌, ◌≤◌}
+use Prim.Native.Nat.{◌≤◌}
 use native.Mathlib.Omega.{arith}
 use lib.ListN.{length}
 use Rattle.code.specs.Programs.{code_as}
 use Rattle.paths.proofs.Ends.{no_record}
 use Rattle.table.specs.Inner.Records.{room_in}
-use Rattle.finder.specs.Inner.Explore.{Exploring, Tries, TriedTo}
+use Rattle.finder.specs.Inner.Explore.{Exploring, TriedTo}
 use Rattle.finder.proofs.Naming.{passes_over}
-use borrow.Author.Rules.{rules}
 use Rattle.finder.proofs.Turns.{to_begin, to_next_length, to_none, to_no_room}
 use Rattle.finder.proofs.explore.explore.Goals as goal
 
@@ -18,8 +17,7 @@ returns-then-table-eq0 c = no_record _ _ _ (omega (arith, c.if-table-eq0.true))
 
 pub loop-passed-init : goal.loop-passed-init
 loop-passed-init c =
-    let some : 1 ≤ room_in c.args.table.now = let more : length c.args.table.now ≡ 0 → ⊥ = c.if-table-eq0.false in omega (arith, c.requires.holds.whole) in
-    (
+    let some : 1 ≤ room_in c.args.table.now = let more : length c.args.table.now ≡ 0 → ⊥ = c.if-table-eq0.false in omega (arith, c.requires.holds.whole) in (
       record {
         sound = c.requires.sound;
         passes = passes_over _ _ _ c.named_flags-named.ensures c.passed_over-passed.ensures;

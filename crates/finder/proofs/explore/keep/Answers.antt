@@ -1,13 +1,10 @@
 -- `keep` meets its contract: what the look-up and the store leave is one of the three turns of a trial that does not satisfy.
 -- the number of the state and one more is a link
 use mathlib.Core.Path.{subst}
-use Prim.Native.Nat.{◌+◌, ◌≤◌}
 use native.Mathlib.Omega.{arith}
-use Rattle.ground.specs.Limits.{limits}
 use Rattle.table.specs.Inner.Tables.{Looks}
 use Rattle.table.specs.declared.Look.{Look}
-use Rattle.finder.proofs.Turns.{filled, can_store, state_most, keeping_known, keeping_full, keeping_new}
-use borrow.Author.Rules.{rules}
+use Rattle.finder.proofs.Turns.{filled, keeping_known, keeping_full, keeping_new}
 use Rattle.finder.proofs.explore.keep.Goals as goal
 
 pub returns-then-table-kept : goal.returns-then-table-kept

@@ -1,6 +1,5 @@
 -- `try_byte` meets its contract: the frame leads on from what the state's record keeps, and a trial that does not satisfy is kept.
 use native.Mathlib.Omega.{arith}
-use borrow.Author.Rules.{rules}
 use Rattle.finder.proofs.Trials.{misses, meets}
 use Rattle.finder.proofs.explore.try_byte.Goals as goal
 

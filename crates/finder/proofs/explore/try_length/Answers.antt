@@ -1,14 +1,11 @@
 -- `try_length` meets its contract. The outer loop's invariant is `BeforeState`, the inner one's `BeforeByte`; the measures are the states and the bytes that
 -- are not tried yet. The way out by the label has a trial that satisfies; the one by which a byte is passed over leaves the table as it is.
-use mathlib.Core.Path.{refl, subst, ◌∙◌}
-use mathlib.Core.Logic.{inl, inr}
-use Prim.Native.Nat.{◌-◌, ◌<◌}
+use mathlib.Core.Path.{refl, subst}
 use native.Mathlib.Omega.{arith}
 use Rattle.paths.specs.Inner.Searching.{frame_bytes}
 use Rattle.finder.specs.Inner.Explore.{TrialTo}
-use Rattle.finder.proofs.Turns.{state_inside}
 use Rattle.table.proofs.Records.{kept_by}
-use Rattle.finder.proofs.Trials.{BeforeState, BeforeByte, states_first, bytes_first, bytes_passed, bytes_more, states_more, states_all}
+use Rattle.finder.proofs.Trials.{BeforeByte, bytes_first, bytes_passed, bytes_more, states_more}
 use Rattle.finder.proofs.explore.try_length.Goals as goal
 use Rattle.finder.proofs.explore.try_length.Goals.{else-loop-frame-test, then-loop-frame-test+then-passed-frame+else-frame-lt255, then-loop-frame-test+else-passed-frame+else-trial+else-frame-lt255-2}
 
@@ -30,7 +27,7 @@ pub all-preserved : goal.all-preserved
 all-preserved c =
     let all_bytes : BeforeByte c.args.numbers.now c.args.passed.now c.args.ended c.registers_at-registers.result c.all.table c.loop-frame-test.table
     c.all.state frame_bytes c.loop-frame-test.kept c.loop-frame.hit = elim c.loop-frame-test.branch [
-      else-loop-frame-test w ↦ absurd (omega (arith, w.loop-frame-test.false, c.loop-frame.invariant.1))
+      | else-loop-frame-test w ↦ absurd (omega (arith, w.loop-frame-test.false, c.loop-frame.invariant.1))
       | then-loop-frame-test+then-passed-frame+else-frame-lt255 w ↦
           let (before, inside) = c.loop-frame.invariant in
           rw (w.table-is, w.kept-is) (bytes_passed _ _ _ before _ (omega (arith, w.if-frame-lt255.false, inside)) inside w.if-passed-frame.true)

@@ -1,14 +1,8 @@
 -- `try_length` meets its contract. The outer loop's invariant is `BeforeState`, the inner one's `BeforeByte`; the measures are the states and the bytes that
 -- are not tried yet. The way out by the label has a trial that satisfies; the one by which a byte is passed over leaves the table as it is.
-use mathlib.Core.Path.{refl, subst, ◌∙◌}
-use mathlib.Core.Logic.{inl, inr}
 use Prim.Native.Nat.{◌-◌, ◌<◌}
-use native.Mathlib.Omega.{arith}
 use Rattle.paths.specs.Inner.Searching.{frame_bytes}
-use Rattle.finder.specs.Inner.Explore.{TrialTo}
-use Rattle.finder.proofs.Turns.{state_inside}
-use Rattle.table.proofs.Records.{kept_by}
-use Rattle.finder.proofs.Trials.{BeforeState, BeforeByte, states_first, bytes_first, bytes_passed, bytes_more, states_more, states_all}
+use Rattle.finder.proofs.Trials.{BeforeState, BeforeByte}
 use Rattle.finder.proofs.explore.try_length.Given as goal
 
 abbrev pub invariant-loop-frame : goal.invariant-loop-frame

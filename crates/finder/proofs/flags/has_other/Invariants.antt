@@ -1,9 +1,6 @@
 -- `has_other` meets its contract. A flag of the byte that is not named is at hand where it answers true. The measure is how many flags are left.
-use mathlib.Core.Bool.{false≢true}
 use Prim.Native.Nat.{◌-◌, ◌≤◌}
-use native.Mathlib.Omega.{arith}
 use Rattle.finder.specs.Inner.Flags.{flags}
-use Rattle.finder.proofs.Naming.{other_here}
 use Rattle.finder.proofs.flags.has_other.Given as goal
 
 abbrev pub invariant-loop-k : goal.invariant-loop-k

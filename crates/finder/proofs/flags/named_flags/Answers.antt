@@ -1,13 +1,8 @@
 -- `named_flags` meets its contract. The loop's invariant: the flags of the first n instructions are named (`NamedTo`). The measure is how many instructions are
 -- left.
-use mathlib.Core.Path.{◌≡◌, refl}
-use mathlib.Core.Logic.{⊎_elim}
-use Prim.Native.Nat.{◌+◌, ◌*◌, ◌-◌}
 use native.Mathlib.Omega.{arith}
-use Rattle.code.specs.Code.{per_instruction}
-use Rattle.code.specs.Programs.{count_in}
 use Rattle.code.proofs.Flat.{at_flag}
-use Rattle.finder.proofs.Naming.{NamedTo, named_first, named_flag, named_other, named_all, flag_inside}
+use Rattle.finder.proofs.Naming.{named_flag, named_other, named_all, flag_inside}
 use Rattle.finder.proofs.flags.named_flags.Goals as goal
 use Rattle.finder.proofs.flags.named_flags.Goals.{then-numbers-base-eq2, else-numbers-base-eq2}
 
@@ -18,7 +13,7 @@ pub loop-n-preserved : goal.loop-n-preserved
 loop-n-preserved c =
     let (named, whole) = c.loop-n.invariant in (
       elim c.if-numbers-base-eq2.branch [
-        then-numbers-base-eq2 w ↦
+        | then-numbers-base-eq2 w ↦
             let taken = w.if-numbers-base-eq2.true in
             rw w.named-is (named_flag _ _ named _ (at_flag _ _ taken) (flag_inside _ _ c.requires (omega arith) taken))
         | else-numbers-base-eq2 w ↦ rw w.named-is (named_other _ _ named w.if-numbers-base-eq2.false)

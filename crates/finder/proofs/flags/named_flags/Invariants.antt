@@ -1,13 +1,9 @@
 -- `named_flags` meets its contract. The loop's invariant: the flags of the first n instructions are named (`NamedTo`). The measure is how many instructions are
 -- left.
-use mathlib.Core.Path.{◌≡◌, refl}
-use mathlib.Core.Logic.{⊎_elim}
-use Prim.Native.Nat.{◌+◌, ◌*◌, ◌-◌}
-use native.Mathlib.Omega.{arith}
-use Rattle.code.specs.Code.{per_instruction}
+use mathlib.Core.Path.{◌≡◌}
+use Prim.Native.Nat.{◌-◌}
 use Rattle.code.specs.Programs.{count_in}
-use Rattle.code.proofs.Flat.{at_flag}
-use Rattle.finder.proofs.Naming.{NamedTo, named_first, named_flag, named_other, named_all, flag_inside}
+use Rattle.finder.proofs.Naming.{NamedTo}
 use Rattle.finder.proofs.flags.named_flags.Given as goal
 
 abbrev pub invariant-loop-n : goal.invariant-loop-n

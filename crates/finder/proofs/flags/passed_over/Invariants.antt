@@ -1,11 +1,8 @@
 -- `passed_over` meets its contract. The loop's invariant: the bytes so far are passed over as they should be (`Passed`). The measure is how many bytes are
 -- left.
-use mathlib.Core.Path.{refl}
 use Prim.Native.Nat.{◌-◌}
-use native.Mathlib.Omega.{arith}
 use Rattle.paths.specs.Inner.Searching.{frame_bytes}
 use Rattle.finder.specs.Inner.Flags.{Passed}
-use Rattle.finder.proofs.Naming.{passed_first, passed_more}
 use Rattle.finder.proofs.flags.passed_over.Given as goal
 
 abbrev pub invariant-loop-byte : goal.invariant-loop-byte

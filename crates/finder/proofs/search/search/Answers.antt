@@ -2,9 +2,7 @@
 -- the rule is a row of bytes
 use native.Mathlib.Nat.{sub-zero}
 use native.Mathlib.Omega.{arith}
-use Rattle.ground.specs.Buffers.{AllBytes}
 use Rattle.finder.proofs.Answered.{horizon_near, count_few, numbers_inside, can_search, refusal_said, says_short, says_answers}
-use borrow.Author.Rules.{rules}
 use Rattle.finder.proofs.search.search.Goals as goal
 
 pub overflow_add-horizon : goal.overflow_add-horizon

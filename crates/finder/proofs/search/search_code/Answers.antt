@@ -4,8 +4,7 @@ use Prim.Native.Nat.{◌*◌}
 use native.Mathlib.Omega.{arith}
 use Rattle.ground.specs.Limits.{limits}
 use Rattle.table.specs.Room.{room_of}
-use Rattle.finder.proofs.Answered.{room_fits, records_fit, can_explore, answers_found}
-use borrow.Author.Rules.{rules}
+use Rattle.finder.proofs.Answered.{room_fits, records_fit, can_explore}
 use Rattle.finder.proofs.search.search_code.Goals as goal
 
 pub overflow_mul-size : goal.overflow_mul-size

@@ -1,6 +1,5 @@
 -- `search_in` meets its contract: what exploring ends with is told.
-use Rattle.finder.proofs.Answered.{can_tell, finds_end}
-use borrow.Author.Rules.{rules}
+use Rattle.finder.proofs.Answered.{finds_end}
 use Rattle.finder.proofs.search.search_in.Goals as goal
 
 pub returns : goal.returns

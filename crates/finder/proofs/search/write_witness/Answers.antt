@@ -1,8 +1,6 @@
 -- `write_witness` meets its contract: the loop's invariant is `Walks`, and the measure is the number of the record, as links lead to records before.
-use mathlib.Core.Path.{◌≡◌, refl, ◌∙◌}
-use native.Mathlib.Omega.{arith}
-use lib.ListN as list
-use Rattle.finder.proofs.Witness.{Walks, walks_first, walks_room, walks_less, walks_inside, walks_more, walks_all}
+use mathlib.Core.Path.{refl}
+use Rattle.finder.proofs.Witness.{walks_first, walks_room, walks_less, walks_inside, walks_more, walks_all}
 use Rattle.finder.proofs.search.write_witness.Goals as goal
 
 pub loop-link-init : goal.loop-link-init

@@ -1,8 +1,5 @@
 -- `write_witness` meets its contract: the loop's invariant is `Walks`, and the measure is the number of the record, as links lead to records before.
-use mathlib.Core.Path.{◌≡◌, refl, ◌∙◌}
-use native.Mathlib.Omega.{arith}
-use lib.ListN as list
-use Rattle.finder.proofs.Witness.{Walks, walks_first, walks_room, walks_less, walks_inside, walks_more, walks_all}
+use Rattle.finder.proofs.Witness.{Walks}
 use Rattle.finder.proofs.search.write_witness.Given as goal
 
 abbrev pub invariant-loop-link : goal.invariant-loop-link
