@@ -22,9 +22,10 @@ use code::load::{LoadedCode, load_code};
 use emitter::emit::{Emitted, emit};
 use ground::limits::{COUNTERS, DELAYS, MOST_CODE, MOST_FRAMES};
 use ground::refusal::{Refusal, number, place};
-use libc::{STDIN_FILENO, STDOUT_FILENO};
 use sequencer::registers::{Output, Registers};
 use sequencer::run::{Ran, run};
+use std::io;
+use std::io::{BufReader, BufWriter, ErrorKind, Read, Write};
 
 // How many values a byte has, and two bytes.
 const BYTE_VALUES: usize = 256;
@@ -85,88 +86,87 @@ fn bit_of(bit: bool) -> u64 {
 }
 
 // Writes some bytes.
-fn write(bytes: &[u8]) {
-    io::write_all(STDOUT_FILENO, bytes);
+fn write<W: Write>(out: &mut W, bytes: &[u8]) -> io::Result<()> {
+    out.write_all(bytes)
 }
 
 // Writes a word and a number.
-fn write_number(word: &[u8], n: usize) {
-    write(word);
-    io::print_decimal(STDOUT_FILENO, n as u64);
+fn write_number<W: Write>(out: &mut W, word: &[u8], n: usize) -> io::Result<()> {
+    write(out, word)?;
+    write!(out, "{n}")
 }
 
 // Writes a refusal.
-fn write_refusal(refusal: Refusal) {
-    write_number(b"refused ", wide(number(refusal)));
-    write_number(b" ", place(refusal));
+fn write_refusal<W: Write>(out: &mut W, refusal: Refusal) -> io::Result<()> {
+    write_number(out, b"refused ", wide(number(refusal)))?;
+    write_number(out, b" ", place(refusal))
 }
 
 // Writes what loading answered.
-fn write_loaded(loaded: LoadedCode) {
+fn write_loaded<W: Write>(out: &mut W, loaded: LoadedCode) -> io::Result<()> {
     match loaded {
-        LoadedCode::Accepted(instructions) => write_number(b"accepted ", instructions),
-        LoadedCode::Refused(refusal) => write_refusal(refusal),
+        LoadedCode::Accepted(instructions) => write_number(out, b"accepted ", instructions),
+        LoadedCode::Refused(refusal) => write_refusal(out, refusal),
     }
 }
 
 // Writes what a step answered.
-fn write_output(output: Output) {
+fn write_output<W: Write>(out: &mut W, output: Output) -> io::Result<()> {
     match output {
-        Output::Bit(bit) => {
-            write(b"bit ");
-            io::print_decimal(STDOUT_FILENO, bit_of(bit));
-        }
-        Output::Refused(refusal) => write_refusal(refusal),
+        Output::Bit(bit) => write!(out, "bit {}", bit_of(bit)),
+        Output::Refused(refusal) => write_refusal(out, refusal),
     }
 }
 
 // Writes what a run answered.
-fn write_ran(ran: Ran) {
+fn write_ran<W: Write>(out: &mut W, ran: Ran) -> io::Result<()> {
     match ran {
-        Ran::Done => write(b"done"),
-        Ran::Refused(refusal) => write_refusal(refusal),
+        Ran::Done => write(out, b"done"),
+        Ran::Refused(refusal) => write_refusal(out, refusal),
     }
 }
 
 // Writes what emitting answered.
-fn write_emitted(emitted: Emitted) {
+fn write_emitted<W: Write>(out: &mut W, emitted: Emitted) -> io::Result<()> {
     match emitted {
-        Emitted::Length(length) => write_number(b"length ", length),
-        Emitted::Refused(refusal) => write_refusal(refusal),
+        Emitted::Length(length) => write_number(out, b"length ", length),
+        Emitted::Refused(refusal) => write_refusal(out, refusal),
     }
 }
 
 // Writes a counter.
-fn write_counter(counter: u16) {
-    write_number(b" ", counter as usize);
+fn write_counter<W: Write>(out: &mut W, counter: u16) -> io::Result<()> {
+    write_number(out, b" ", counter as usize)
 }
 
 // Writes all counters.
-fn write_counters(counters: [u16; COUNTERS]) {
-    write(b" counters");
+fn write_counters<W: Write>(out: &mut W, counters: [u16; COUNTERS]) -> io::Result<()> {
+    write(out, b" counters")?;
     let mut n = 0;
     while n < COUNTERS {
-        write_counter(counters[n]);
+        write_counter(out, counters[n])?;
         n += 1;
     }
+    Ok(())
 }
 
 // Writes all delay bits, a word of them at a time: the word keeps the last that came in.
-fn write_delays(delays: [bool; DELAYS]) {
-    write(b" delays ");
+fn write_delays<W: Write>(out: &mut W, delays: [bool; DELAYS]) -> io::Result<()> {
+    write(out, b" delays ")?;
     let mut word = 0u64;
     let mut n = 0;
     while n < DELAYS {
         word = (word << 1) | bit_of(delays[n]);
         n += 1;
         if n % WORD_BITS == 0 {
-            io::print_hex(STDOUT_FILENO, word, WORD_DIGITS);
+            write!(out, "{word:0WORD_DIGITS$x}")?;
         }
     }
+    Ok(())
 }
 
 // Writes bytes as hex digits, a word at a time.
-fn write_hex(bytes: &[u8]) {
+fn write_hex<W: Write>(out: &mut W, bytes: &[u8]) -> io::Result<()> {
     let mut word = 0u64;
     let mut held = 0;
     let mut n = 0;
@@ -175,21 +175,23 @@ fn write_hex(bytes: &[u8]) {
         held += 1;
         n += 1;
         if held == WORD_BYTES {
-            io::print_hex(STDOUT_FILENO, word, WORD_DIGITS);
+            write!(out, "{word:0WORD_DIGITS$x}")?;
             word = 0;
             held = 0;
         }
     }
     if held > 0 {
-        io::print_hex(STDOUT_FILENO, word, 2 * held);
+        let digits = 2 * held;
+        write!(out, "{word:0digits$x}")?;
     }
+    Ok(())
 }
 
 // Writes every byte of a buffer, and ends the line.
-fn write_buffer(buffer: &[u8]) {
-    write(b" [");
-    write_hex(buffer);
-    write(b"]\n");
+fn write_buffer<W: Write>(out: &mut W, buffer: &[u8]) -> io::Result<()> {
+    write(out, b" [")?;
+    write_hex(out, buffer)?;
+    write(out, b"]\n")
 }
 
 // The byte at a place; where there is none, 0.
@@ -223,13 +225,13 @@ fn delays_of(bytes: &[u8]) -> [bool; DELAYS] {
 }
 
 // Loads code and writes the answer.
-fn answer_load(code: &[u8]) {
-    write_loaded(load_code(code));
-    write(b"\n");
+fn answer_load<W: Write>(out: &mut W, code: &[u8]) -> io::Result<()> {
+    write_loaded(out, load_code(code))?;
+    write(out, b"\n")
 }
 
 // Takes one step and writes its answer and all registers after it.
-fn answer_step(code: &[u8], frame: u8, bytes: &[u8]) {
+fn answer_step<W: Write>(out: &mut W, code: &[u8], frame: u8, bytes: &[u8]) -> io::Result<()> {
     let before = Registers {
         counters: counters_of(bytes),
         delays: delays_of(bytes),
@@ -239,22 +241,27 @@ fn answer_step(code: &[u8], frame: u8, bytes: &[u8]) {
     let after = stepped.registers;
     let counters = after.counters;
     let delays = after.delays;
-    write_output(output);
-    write_counters(counters);
-    write_delays(delays);
-    write(b"\n");
+    write_output(out, output)?;
+    write_counters(out, counters)?;
+    write_delays(out, delays)?;
+    write(out, b"\n")
 }
 
 // Runs code over a clip and writes the answer and every byte of the buffer after it.
-fn answer_run(code: &[u8], clip: &[u8], buffer: &mut [u8]) {
-    write_ran(run(code, clip, &mut *buffer));
-    write_buffer(buffer);
+fn answer_run<W: Write>(
+    out: &mut W,
+    code: &[u8],
+    clip: &[u8],
+    buffer: &mut [u8],
+) -> io::Result<()> {
+    write_ran(out, run(code, clip, &mut *buffer))?;
+    write_buffer(out, buffer)
 }
 
 // Emits a rule's code and writes the answer and every byte of the buffer after it.
-fn answer_emit(rule: &[u8], buffer: &mut [u8]) {
-    write_emitted(emit(rule, &mut *buffer));
-    write_buffer(buffer);
+fn answer_emit<W: Write>(out: &mut W, rule: &[u8], buffer: &mut [u8]) -> io::Result<()> {
+    write_emitted(out, emit(rule, &mut *buffer))?;
+    write_buffer(out, buffer)
 }
 
 // Runs a rule's code over a clip. A rule that is refused has no code, and its refusal is the answer.
@@ -269,110 +276,172 @@ fn verdicts(rule: &[u8], clip: &[u8], buffer: &mut [u8]) -> Ran {
 
 // Says for each frame of a clip whether a rule holds from there, and writes the answer and every byte of the buffer
 // after it.
-fn answer_verdicts(rule: &[u8], clip: &[u8], buffer: &mut [u8]) {
-    write_ran(verdicts(rule, clip, &mut *buffer));
-    write_buffer(buffer);
+fn answer_verdicts<W: Write>(
+    out: &mut W,
+    rule: &[u8],
+    clip: &[u8],
+    buffer: &mut [u8],
+) -> io::Result<()> {
+    write_ran(out, verdicts(rule, clip, &mut *buffer))?;
+    write_buffer(out, buffer)
 }
 
 // Says that the stream is cut, and that there is nothing more to do.
-fn cut() -> bool {
-    write(b"cut\n");
-    false
+fn cut<W: Write>(out: &mut W) -> io::Result<bool> {
+    write(out, b"cut\n")?;
+    Ok(false)
 }
 
 // Answers a case and says whether to go on.
-fn answer_case(kind: u8, first: &[u8], second: &[u8], third: &mut [u8]) -> bool {
+fn answer_case<W: Write>(
+    out: &mut W,
+    kind: u8,
+    first: &[u8],
+    second: &[u8],
+    third: &mut [u8],
+) -> io::Result<bool> {
     if kind == b'l' {
-        answer_load(first);
-        return true;
+        answer_load(out, first)?;
+        return Ok(true);
     }
     if kind == b's' {
-        answer_step(first, byte_at(second, 0), third);
-        return true;
+        answer_step(out, first, byte_at(second, 0), third)?;
+        return Ok(true);
     }
     if kind == b'r' {
-        answer_run(first, second, &mut *third);
-        return true;
+        answer_run(out, first, second, &mut *third)?;
+        return Ok(true);
     }
     if kind == b'e' {
-        answer_emit(first, &mut *third);
-        return true;
+        answer_emit(out, first, &mut *third)?;
+        return Ok(true);
     }
     if kind == b'j' {
-        answer_verdicts(first, second, &mut *third);
-        return true;
+        answer_verdicts(out, first, second, &mut *third)?;
+        return Ok(true);
     }
-    cut()
+    cut(out)
+}
+
+// Fills a buffer from the stream, and says whether the stream has so many bytes.
+fn fill<R: Read>(input: &mut R, buffer: &mut [u8]) -> io::Result<bool> {
+    match input.read_exact(buffer) {
+        Ok(()) => Ok(true),
+        Err(error) if error.kind() == ErrorKind::UnexpectedEof => Ok(false),
+        Err(error) => Err(error),
+    }
 }
 
 // Reads a length and so many bytes to the buffer's start. Answers the length; it is more than the buffer has where the
 // stream is cut.
-fn read_bytes(buffer: &mut [u8]) -> usize {
+fn read_bytes<R: Read>(input: &mut R, buffer: &mut [u8]) -> io::Result<usize> {
     let mut four = [0; LENGTH_BYTES];
-    let got = io::read_full(STDIN_FILENO, &mut four);
-    if got < LENGTH_BYTES {
-        return NO_LENGTH;
+    if !fill(input, &mut four)? {
+        return Ok(NO_LENGTH);
     }
     let length = length_of(four);
     if buffer.len() < length {
-        return length;
+        return Ok(length);
     }
-    let got = io::read_full(STDIN_FILENO, &mut buffer[0..length]);
-    if got < length {
-        return NO_LENGTH;
+    if !fill(input, &mut buffer[0..length])? {
+        return Ok(NO_LENGTH);
     }
-    length
+    Ok(length)
 }
 
 // Reads the last bytes of a case, and answers it.
-fn read_third(kind: u8, first: &[u8], second: &[u8], third: &mut [u8]) -> bool {
-    let length = read_bytes(&mut *third);
+fn read_third<R: Read, W: Write>(
+    input: &mut R,
+    out: &mut W,
+    kind: u8,
+    first: &[u8],
+    second: &[u8],
+    third: &mut [u8],
+) -> io::Result<bool> {
+    let length = read_bytes(input, &mut *third)?;
     if third.len() < length {
-        return cut();
+        return cut(out);
     }
-    answer_case(kind, first, second, &mut third[0..length])
+    answer_case(out, kind, first, second, &mut third[0..length])
 }
 
 // Reads a case from its second bytes on, and answers it.
-fn read_second(kind: u8, first: &[u8], second: &mut [u8], third: &mut [u8]) -> bool {
-    let length = read_bytes(&mut *second);
+fn read_second<R: Read, W: Write>(
+    input: &mut R,
+    out: &mut W,
+    kind: u8,
+    first: &[u8],
+    second: &mut [u8],
+    third: &mut [u8],
+) -> io::Result<bool> {
+    let length = read_bytes(input, &mut *second)?;
     if second.len() < length {
-        return cut();
+        return cut(out);
     }
-    read_third(kind, first, &second[0..length], &mut *third)
+    read_third(input, out, kind, first, &second[0..length], &mut *third)
 }
 
 // Reads a case behind its kind, and answers it.
-fn read_first(kind: u8, first: &mut [u8], second: &mut [u8], third: &mut [u8]) -> bool {
-    let length = read_bytes(&mut *first);
+fn read_first<R: Read, W: Write>(
+    input: &mut R,
+    out: &mut W,
+    kind: u8,
+    first: &mut [u8],
+    second: &mut [u8],
+    third: &mut [u8],
+) -> io::Result<bool> {
+    let length = read_bytes(input, &mut *first)?;
     if first.len() < length {
-        return cut();
+        return cut(out);
     }
-    read_second(kind, &first[0..length], &mut *second, &mut *third)
+    read_second(
+        input,
+        out,
+        kind,
+        &first[0..length],
+        &mut *second,
+        &mut *third,
+    )
 }
 
 // Reads the next case, answers it, and says whether to go on.
-fn answer_next(first: &mut [u8], second: &mut [u8], third: &mut [u8]) -> bool {
+fn answer_next<R: Read, W: Write>(
+    input: &mut R,
+    out: &mut W,
+    first: &mut [u8],
+    second: &mut [u8],
+    third: &mut [u8],
+) -> io::Result<bool> {
     let mut kind = [0; 1];
-    let got = io::read_full(STDIN_FILENO, &mut kind);
-    if got == 0 {
-        return false;
+    if !fill(input, &mut kind)? {
+        return Ok(false);
     }
-    read_first(kind[0], &mut *first, &mut *second, &mut *third)
+    let more = read_first(input, out, kind[0], &mut *first, &mut *second, &mut *third)?;
+    out.flush()?;
+    Ok(more)
 }
 
 // A proved loop has to end, and nothing says that the stream does: the turns are counted down, from a number that no
 // run uses up.
-fn answer_all(first: &mut [u8], second: &mut [u8], third: &mut [u8]) {
+fn answer_all<R: Read, W: Write>(
+    input: &mut R,
+    out: &mut W,
+    first: &mut [u8],
+    second: &mut [u8],
+    third: &mut [u8],
+) -> io::Result<()> {
     let mut turns = u64::MAX;
-    while turns > 0 && answer_next(&mut *first, &mut *second, &mut *third) {
+    while turns > 0 && answer_next(input, out, &mut *first, &mut *second, &mut *third)? {
         turns -= 1;
     }
+    Ok(())
 }
 
-fn main() {
+fn main(rt: HostRuntime) -> io::Result<()> {
     let mut first = [0; MOST_BYTES];
     let mut second = [0; MOST_BYTES];
     let mut third = [0; MOST_BYTES];
-    answer_all(&mut first, &mut second, &mut third);
+    let mut input = BufReader::new(rt.alloc(), rt.reader())?;
+    let mut out = BufWriter::new(rt.alloc(), io::writer(&rt))?;
+    answer_all(&mut input, &mut out, &mut first, &mut second, &mut third)
 }

@@ -4,12 +4,15 @@
 // Standard input: the rule's bytes, of which up to 1,024 are read. Standard output: document 01's text under "Program".
 #![tactic(auto)]
 
+ghost use Rattle.std.specs.Prelude.{◌≤◌, length, IfOk};
+
 mod clip;
 mod standing;
 
 use crate::standing::{MOST_TEXT, write_standing};
 use ground::limits::MOST_HORIZON;
-use libc::{STDIN_FILENO, STDOUT_FILENO};
+use std::io;
+use std::io::Read;
 
 // How many bytes are read.
 const MOST_BYTES: usize = 1_024;
@@ -20,12 +23,27 @@ const TABLE: usize = 65_536;
 // The length of the witness buffer: the greatest that 14 can ask.
 const WITNESS: usize = MOST_HORIZON + 1;
 
-fn main() {
+// Reads bytes until the buffer is full or the input ends, and answers how many.
+fn read_full<R: Read>(input: &mut R, buffer: &mut [u8]) -> io::Result<usize>
+    ensures { IfOk result (λ n. n ≤ length buffer.new) }
+{
+    let mut at = 0;
+    while at < buffer.len() {
+        let got = input.read(&mut buffer[at..])?;
+        if got == 0 {
+            break;
+        }
+        at += got;
+    }
+    Ok(at)
+}
+
+fn main(rt: HostRuntime) -> io::Result<()> {
     let mut rule = [0; MOST_BYTES];
-    let got = io::read_full(STDIN_FILENO, &mut rule);
+    let got = read_full(&mut rt.reader(), &mut rule)?;
     let mut table = [0; TABLE];
     let mut witness = [0; WITNESS];
     let mut text = [0; MOST_TEXT];
     let length = write_standing(&rule[..got], &mut table, &mut witness, &mut text);
-    io::write_all(STDOUT_FILENO, &text[..length]);
+    rt.write_all(&text[..length])
 }
