@@ -12,7 +12,8 @@ use Rattle.ground.specs.Limits.{limits}
 use Rattle.ground.specs.Padded.{padded}
 use Rattle.reading.proofs.InTurn.{all_back}
 use Rattle.code.specs.Code.{Instruction, Code, per_instruction, bytes_of_instruction}
-use Rattle.code.specs.Loading.{check_instruction, code_counts, instruction_outcome, code_kind, read_code, loaded_code_of, code_of, flat, most_code_numbers, program_of}
+use Rattle.code.specs.Loading.{check_instruction, code_counts, instruction_outcome, code_kind, read_code, loaded_code_of, code_of, flat, most_code_numbers}
+use Rattle.code.specs.Loading.{program_of}
 use Rattle.code.specs.declared.check.CodeCounts.{CodeCounts}
 use Rattle.code.specs.declared.check.CheckedInstruction.{CheckedInstruction}
 use Rattle.code.specs.declared.load.LoadedCode.{LoadedCode}

@@ -12,7 +12,8 @@ use Rattle.ground.proofs.Choices.{both_ways}
 use Rattle.reading.proofs.InTurn.{Placed, all_place}
 use Rattle.code.specs.Code.{Instruction, Code, bytes_of_instruction}
 use Rattle.code.specs.Good.{GoodCode}
-use Rattle.code.specs.Loading.{flag_too_large, not_earlier, bad_width, code_too_large, check_instruction, code_counts, code_counted, instruction_outcome, code_kind, read_code, most_code_place}
+use Rattle.code.specs.Loading.{flag_too_large, not_earlier, bad_width, code_too_large, check_instruction, code_counts, code_counted, instruction_outcome}
+use Rattle.code.specs.Loading.{code_kind, read_code, most_code_place}
 use Rattle.code.specs.declared.check.CheckedInstruction.{CheckedInstruction}
 use Rattle.code.proofs.Accepted.{good_on}
 use Rattle.code.proofs.Counting.{good_none, good_instructions, good_counters}

@@ -9,7 +9,8 @@ use Rattle.code.specs.Loading.{reaches_in, distance_in, code_counts, code_counte
 use Rattle.code.specs.Samples.{CodeRight, samples}
 
 pub samples_right : Each CodeRight samples
-unfolding samples read_all in_turn item_at numbers_from look instruction_codes number_at instruction_of check_instruction code_counts code_counted reaches_in distance_in
+unfolding samples read_all in_turn item_at numbers_from look instruction_codes number_at instruction_of check_instruction code_counts code_counted reaches_in
+    distance_in
     code_too_large
 samples_right =
     (refl, (refl, (refl, (refl, (refl, (refl, (refl, (refl, (refl, (refl, (refl, tt)))))))))))

@@ -8,7 +8,8 @@ use Rattle.ground.specs.Limits.{limits}
 use Rattle.ground.specs.Padded.{padded}
 use Rattle.reading.specs.declared.item.Table.{Table}
 use Rattle.ground.specs.declared.refusal.Refusal.{Refusal}
-use Rattle.code.specs.Code.{Instruction, One, Flag, Nand, Reach, Later, Code, instruction_of, per_instruction, four_numbers}
+use Rattle.code.specs.Code.{Instruction, One, Flag, Nand, Reach, Later, Code, instruction_of, per_instruction}
+use Rattle.code.specs.Code.{four_numbers}
 use Rattle.code.specs.declared.check.CodeCounts.{CodeCounts}
 use Rattle.code.specs.declared.check.CheckedInstruction.{CheckedInstruction}
 use Rattle.code.specs.declared.load.LoadedCode.{LoadedCode}

@@ -67,7 +67,8 @@ pub end_append : (end : CodeEnd) (c d : Code) → end_after (end_after end c) d 
 unfolding end_after
 end_append end c d =
     let all = bytes_append bytes_of_instruction c d in
-    let at : end.at + length (bytes_of_code c) + length (bytes_of_code d) ≡ end.at + length (bytes_of_code (c ++ d)) = simp (all, length-append) (omega arith) in
+    let at : end.at + length (bytes_of_code c) + length (bytes_of_code d) ≡ end.at + length (bytes_of_code (c ++ d)) = simp (all, length-append) (omega arith)
+    in
     let count : end.count + length c + length d ≡ end.count + length (c ++ d) = simp length-append (omega arith) in
     λ k. record { at = at k; count = count k }
 

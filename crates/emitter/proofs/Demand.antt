@@ -100,7 +100,8 @@ one_byte b h (suc i) = omega arith
 
 -- No one code meets the demand for every accepted rule: of `10`, true, and `11`, false, one byte would be both 1 and 0
 pub no_fixed_code : (code : List ℕ) → ((rule : List ℕ) (is : Items) (f : Formula) → AllBytes rule → read_rule rule ≡ accepted is f → Meets f code) → ⊥
-unfolding read_rule read_all in_turn item_at numbers_from look rule_codes item_of apply stack_from timed_in lower_in rule_counts rule_counted bad_window rule_too_large
+unfolding read_rule read_all in_turn item_at numbers_from look rule_codes item_of apply stack_from timed_in lower_in rule_counts rule_counted bad_window
+    rule_too_large
     check_item Holds
 no_fixed_code code meets =
     let yes = one_frame Formula.True code (meets (0x10 ∷ []) _ Formula.True (one_byte 0x10 (omega arith)) refl) in

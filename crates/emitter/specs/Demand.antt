@@ -20,7 +20,8 @@ use Rattle.emitter.specs.declared.emit.Emitted.{Emitted}
 -- contract
 abbrev pub RunSays : List ℕ → Clip → List ℕ → Ran → List ℕ → Type 0
 RunSays code clip before answer after =
-    (answer ≡ ran_of (read_code code) clip before) × (after ≡ buffer_after answer (code_of (read_code code)) clip before)
+    (answer ≡ ran_of (read_code code) clip before) ×
+    (after ≡ buffer_after answer (code_of (read_code code)) clip before)
 
 -- A buffer after a run over a clip, by the paper's meaning of the rule: 1 for a frame if the clip from it to its end
 -- satisfies the rule, 0 if it does not, and behind the clip's frames what it held before

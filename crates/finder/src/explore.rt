@@ -2,7 +2,8 @@
 // new, or there is no room. A byte with a flag that the code does not name is passed over: it leads where a smaller one
 // led.
 ghost use Rattle.code.specs.Programs.{code_as};
-ghost use Rattle.finder.specs.Inner.Explore.{CanKeep, Keeping, CanTryByte, TryingByte, Tries, TriedTo, CanExplore, Ends};
+ghost use Rattle.finder.specs.Inner.Explore.{CanKeep, Keeping, CanTryByte, TryingByte, Tries, TriedTo, CanExplore};
+ghost use Rattle.finder.specs.Inner.Explore.{Ends};
 
 use crate::flags::{named_flags, passed_over};
 use ground::limits::RECORD;

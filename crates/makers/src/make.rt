@@ -1,7 +1,8 @@
 // New rules: negate, both, either and next put an operator behind one rule or two. The new bytes are joined in a
 // workspace of their own and checked there, so nothing is written unless all is well.
 ghost use Rattle.std.specs.Prelude.{◌≡◌, ◌++◌, ◌+◌, ◌≤◌, length, take};
-ghost use Rattle.makers.specs.Making.{negation, conjunction, disjunction, next_frame, most_operator, most_new, which_of, MakesNew, MakesOne, MakesTwo};
+ghost use Rattle.makers.specs.Making.{negation, conjunction, disjunction, next_frame, most_operator, most_new};
+ghost use Rattle.makers.specs.Making.{which_of, MakesNew, MakesOne, MakesTwo};
 
 use ground::buffer::write_bytes;
 use ground::limits::MOST_RULE;

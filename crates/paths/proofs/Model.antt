@@ -10,7 +10,8 @@ use lib.ListN.{length, get_or-map}
 use Rattle.ground.specs.Frames.{Clip}
 use Rattle.paths.specs.Answers.{Answer, Right}
 use Rattle.paths.specs.Inner.Searching.{Stepwise, clip_at, frame_bytes, Searching}
-use Rattle.paths.specs.Inner.Model.{Machine, after, MachineHits, Place, Moved, stop, go, trial, state_at, among, next_byte, new_state, led_to, tried, on_state, on_length, move_at, move, Ended, ended, unfinished, loop, modelled}
+use Rattle.paths.specs.Inner.Model.{Machine, after, MachineHits, Place, Moved, stop, go, trial, state_at, among, next_byte, new_state, led_to, tried, on_state}
+use Rattle.paths.specs.Inner.Model.{on_length, move_at, move, Ended, ended, unfinished, loop, modelled}
 use Rattle.paths.proofs.Turns.{begins, known_turn, new_turn, full_turn, next_state, next_length}
 use Rattle.paths.proofs.Ends.{no_record, ends_met, ends_none, ends_full}
 

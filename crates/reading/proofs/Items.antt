@@ -1,4 +1,4 @@
--- Laws of `numbers_from` and `item_at`. `ReadingNumbers` is where `read_numbers` stands: what it has read is in its array, and the rest, read from here on, makes
+-- Laws of `numbers_from` and `item_at`. `ReadingNumbers` is where `read_numbers` stands: what it has read is in its array, and the rest, read on from here,
 -- the item.
 use mathlib.Core.Path.{◌≡◌, refl, sym, subst}
 use mathlib.Core.List.{List, [], ◌∷◌, ◌++◌}

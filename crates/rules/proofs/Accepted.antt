@@ -14,7 +14,8 @@ use Rattle.ground.specs.Limits.{most_rule_bytes}
 use Rattle.rules.specs.Formula.{Formula, True, False, Flag, Not, And, Or, Until, Release, Eventually, Globally, horizon}
 use Rattle.rules.specs.Inner.Good.{GoodItems, postfixes}
 use Rattle.rules.specs.Items.{row_of_item, postfix, apply, bytes_of_item, rule_bytes}
-use Rattle.rules.specs.Loading.{Items, Reading, accepted, refused, loaded_of, one_value, at_end, item_outcome, rule_kind, check_item, rule_counts, stack_from, stack_of, read_rule}
+use Rattle.rules.specs.Loading.{Items, Reading, accepted, refused, loaded_of, one_value, at_end, item_outcome, rule_kind, check_item, rule_counts, stack_from}
+use Rattle.rules.specs.Loading.{stack_of, read_rule}
 use Rattle.rules.specs.declared.item.Item.{Item}
 use Rattle.rules.specs.declared.check.CheckedItem.{CheckedItem}
 use Rattle.rules.specs.declared.load.Loaded.{Loaded}

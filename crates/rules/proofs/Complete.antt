@@ -18,7 +18,8 @@ use Rattle.rules.specs.Accepted.{IsRule, InRange}
 use Rattle.rules.specs.Formula.{Formula, True, False, Flag, Not, And, Or, Until, Release, Eventually, Globally}
 use Rattle.rules.specs.Inner.Good.{FineItem}
 use Rattle.rules.specs.Items.{postfix, row_of_item, item_of, apply, bytes_of_item}
-use Rattle.rules.specs.Loading.{Items, accepted, at_end, item_outcome, rule_kind, check_item, bad_window, rule_too_large, rule_counts, rule_counted, stack_from, stack_of, timed_in, lower_in, read_rule}
+use Rattle.rules.specs.Loading.{Items, accepted, at_end, item_outcome, rule_kind, check_item, bad_window, rule_too_large, rule_counts, rule_counted, stack_from}
+use Rattle.rules.specs.Loading.{stack_of, timed_in, lower_in, read_rule}
 use Rattle.rules.specs.declared.item.Item.{Item}
 use Rattle.rules.specs.declared.check.RuleCounts.{RuleCounts}
 use Rattle.rules.specs.declared.check.CheckedItem.{CheckedItem}

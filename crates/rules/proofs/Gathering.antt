@@ -12,7 +12,8 @@ use Rattle.ground.proofs.Padded.{set_padded}
 use Rattle.ground.proofs.Stacked.{stacked_drop, stacked_push}
 use Rattle.rules.specs.Formula.{Formula, horizon}
 use Rattle.rules.specs.Items.{row_of_item}
-use Rattle.rules.specs.Loading.{Items, Reading, accepted, refused, one_value, items_of, loaded_of, rule_of, stack_from, stack_of, timed_in, lower_in, rule_counts, rule_counted, column}
+use Rattle.rules.specs.Loading.{Items, Reading, accepted, refused, one_value, items_of, loaded_of, rule_of, stack_from, stack_of, timed_in, lower_in}
+use Rattle.rules.specs.Loading.{rule_counts, rule_counted, column}
 use Rattle.rules.specs.Inner.Gathered.{largest_of, Gathers, OneMore, rule_with}
 use Rattle.rules.specs.declared.item.Item.{Item}
 use Rattle.rules.specs.declared.item.ItemRow.{ItemRow}

@@ -15,7 +15,8 @@ use Rattle.reading.proofs.InTurn.{Placed, all_place}
 use Rattle.rules.specs.Formula.{Formula}
 use Rattle.rules.specs.Inner.Good.{GoodItems}
 use Rattle.rules.specs.Items.{row_of_item, bytes_of_item}
-use Rattle.rules.specs.Loading.{Items, refused, one_value, at_end, item_outcome, rule_kind, check_item, bad_window, rule_too_large, rule_counts, rule_counted, stack_of, read_rule}
+use Rattle.rules.specs.Loading.{Items, refused, one_value, at_end, item_outcome, rule_kind, check_item, bad_window, rule_too_large, rule_counts, rule_counted}
+use Rattle.rules.specs.Loading.{stack_of, read_rule}
 use Rattle.rules.specs.declared.item.Item.{Item}
 use Rattle.rules.specs.declared.check.CheckedItem.{CheckedItem}
 use Rattle.rules.proofs.Accepted.{good_on, good_short, items_read}

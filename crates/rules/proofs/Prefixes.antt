@@ -43,7 +43,8 @@ own_enough : (f : Formula) → Enough [] (postfix f)
 own_enough f = rw append-nil at (enough f [] [] tt)
 
 -- Each item of a formula finds its operands among the values of those before it
-pub operands_there : (f : Formula) (k : ℕ) → k < length (postfix f) → (row_of_item (get_or (postfix f) k Item.True)).operands ≤ length (stack_of (take k (postfix f)))
+pub operands_there : (f : Formula) (k : ℕ) → k < length (postfix f) → (row_of_item (get_or (postfix f) k Item.True)).operands ≤ length
+    (stack_of (take k (postfix f)))
 operands_there f k h = there_from (postfix f) [] k (own_enough f) h
 
 -- There are no more values than items

@@ -12,7 +12,8 @@ use Rattle.rules.specs.Meaning.{holds, reaches, within}
 use Rattle.rules.specs.Samples.{LoadedRight, from_each, samples}
 
 pub samples_right : Each LoadedRight samples
-unfolding samples from_each read_rule read_all in_turn item_at numbers_from look rule_codes number_at check_item bad_window rule_too_large rule_counts rule_counted
+unfolding samples from_each read_rule read_all in_turn item_at numbers_from look rule_codes number_at check_item bad_window rule_too_large rule_counts
+    rule_counted
     timed_in lower_in stack_from apply item_of horizon holds reaches within has_flag
 samples_right =
     (refl, (refl, (refl, (refl, (refl, (refl, (refl, (refl, (refl, (refl, (refl, (refl, (refl, (refl, (refl, (refl, (refl, (refl, (refl, tt)))))))))))))))))))

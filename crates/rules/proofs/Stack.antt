@@ -91,7 +91,8 @@ applied (Item.Release a b) (g ∷ []) h = absurd (omega arith)
 applied (Item.Release a b) (g ∷ f ∷ st) h = of (Item.Release a b) (g ∷ f ∷ []) st (Formula.Release a b f g) refl refl (omega arith) (simp append_assoc)
 
 -- with operands enough, the counts with one item more are those of the items with it
-pub counts_more : (is : Items) (i : Item) → (row_of_item i).operands ≤ (rule_counts is).depth → rule_counted (rule_counts is) (row_of_item i) ≡ rule_counts (is ++ i ∷ [])
+pub counts_more : (is : Items) (i : Item) → (row_of_item i).operands ≤ (rule_counts is).depth → rule_counted (rule_counts is) (row_of_item i) ≡ rule_counts
+    (is ++ i ∷ [])
 unfolding rule_counts rule_counted
 counts_more is i h =
     let a = applied i (stack_of is) h in

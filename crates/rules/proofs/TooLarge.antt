@@ -17,7 +17,8 @@ use Rattle.reading.proofs.InTurn.{Numbered, checked_from, all_checked}
 use Rattle.rules.specs.Formula.{Formula}
 use Rattle.rules.specs.Accepted.{InRange}
 use Rattle.rules.specs.Items.{postfix, row_of_item, bytes_of_item, rule_bytes}
-use Rattle.rules.specs.Loading.{Items, accepted, refused, at_end, item_outcome, rule_kind, check_item, bad_window, rule_too_large, rule_counts, rule_counted, stack_from, stack_of, read_rule}
+use Rattle.rules.specs.Loading.{Items, accepted, refused, at_end, item_outcome, rule_kind, check_item, bad_window, rule_too_large, rule_counts, rule_counted}
+use Rattle.rules.specs.Loading.{stack_from, stack_of, read_rule}
 use Rattle.rules.specs.declared.item.Item.{Item}
 use Rattle.rules.specs.declared.check.RuleCounts.{RuleCounts}
 use Rattle.rules.specs.declared.check.CheckedItem.{CheckedItem}
@@ -41,7 +42,8 @@ unfolding rule_counts
 outcome at is [] r e = inl (rw append-nil)
 outcome at is (i ∷ js) r e =
     let behind = at + length (bytes_of_item i) in
-    let P : CheckedItem → Type 0 = λ j. Outcome (is ++ i ∷ js) (after_checked (item_outcome j) (checked_from rule_kind bytes_of_item behind (is ++ i ∷ []) js)) in
+    let P : CheckedItem → Type 0 = λ j. Outcome (is ++ i ∷ js)
+    (after_checked (item_outcome j) (checked_from rule_kind bytes_of_item behind (is ++ i ∷ []) js)) in
     rw (by_limits (rule_counts is) at i r.0 e.0)
     (both_ways P (rule_too_large (rule_counted (rule_counts is) (row_of_item i))) {x = CheckedItem.Refused (Refusal.RuleTooLarge at)} (inr (at, refl))
     (rw append_assoc at (outcome behind (is ++ i ∷ []) js r.1 (rw stack_more e.1))))

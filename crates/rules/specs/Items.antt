@@ -6,7 +6,8 @@ use Rattle.reading.specs.InTurn.{bytes_of_all}
 use Rattle.reading.specs.Numbers.{number_bytes}
 use Rattle.rules.specs.Formula.{Formula}
 use Rattle.rules.specs.declared.item.Item.{Item}
-use Rattle.rules.specs.declared.item.Item.TheVariants.{True, False, Flag, Not, And, Or, Until, Release, Eventually, Globally}
+use Rattle.rules.specs.declared.item.Item.TheVariants.{True, False, Flag, Not, And, Or, Until, Release, Eventually}
+use Rattle.rules.specs.declared.item.Item.TheVariants.{Globally}
 use Rattle.rules.specs.declared.item.ItemRow.{ItemRow}
 
 -- A row of the table below: code byte, operands, timed (1 or 0), flag, lower bound, upper bound

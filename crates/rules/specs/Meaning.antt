@@ -2,7 +2,8 @@
 -- computes. `proofs/Agreement.antt` shows that the two agree. A clip is the list of its frames, the earliest first;
 -- "the clip from i" is `drop i`. Document 01: "l until[a,b] r holds if n > a and some place p, a ≤ p ≤ b, p < n, has r
 -- on the clip from i+p, and l holds on the clip from i+j for each j with a ≤ j < p."
-use Rattle.std.specs.Prelude.{◌≡◌, Bool, true, false, not, ◌&&◌, ◌||◌, [], ◌∷◌, ◌⊎◌, ℕ, zero, suc, ◌-◌, ◌≤◌, ◌<◌, length, get_or, drop}
+use Rattle.std.specs.Prelude.{◌≡◌, Bool, true, false, not, ◌&&◌, ◌||◌, [], ◌∷◌, ◌⊎◌, ℕ, zero, suc, ◌-◌, ◌≤◌, ◌<◌}
+use Rattle.std.specs.Prelude.{length, get_or, drop}
 use Rattle.ground.specs.Frames.{Clip, has_flag}
 use Rattle.rules.specs.Formula.{Formula, True, False, Flag, Not, And, Or, Until, Release, Eventually, Globally}
 

@@ -20,7 +20,8 @@ use Rattle.reading.specs.Numbers.{number_at}
 use Rattle.rules.specs.Accepted.{IsRule}
 use Rattle.rules.specs.Formula.{Formula, horizon}
 use Rattle.rules.specs.Items.{item_of, apply}
-use Rattle.rules.specs.Loading.{Items, Reading, accepted, refused, stack_from, timed_in, lower_in, rule_counts, rule_counted, bad_window, rule_too_large, check_item, read_rule}
+use Rattle.rules.specs.Loading.{Items, Reading, accepted, refused, stack_from, timed_in, lower_in, rule_counts, rule_counted, bad_window, rule_too_large}
+use Rattle.rules.specs.Loading.{check_item, read_rule}
 use Rattle.rules.specs.Meaning.{Holds}
 use Rattle.rules.proofs.Accepted.{accepted_rule}
 use Rattle.sequencer.specs.After.{steps_over}
@@ -160,7 +161,8 @@ moves = 2000
 
 -- What is computed for the row of a search, by what is read of the rule: whether it is of bytes and states are counted; the horizon; and the model's answer
 abbrev computed : List ℕ → Reading → Answer → Bool × ℕ × Ended
-computed rule (accepted is f) a = (are_bytes rule && ltb 0 (states_of (found_of a)), horizon f, modelled (machine_of (code_for f)) (states_of (found_of a)) moves)
+computed rule (accepted is f) a =
+    (are_bytes rule && ltb 0 (states_of (found_of a)), horizon f, modelled (machine_of (code_for f)) (states_of (found_of a)) moves)
 computed rule (refused r) a = (false, 0, unfinished)
 
 -- What computes for a row
@@ -185,7 +187,8 @@ right (emits rule code) e = e
 
 -- The run and the emitted code are rows of the emitter's samples
 pub samples_right : Each FoundRight samples
-unfolding samples emitter.samples read_rule read_all in_turn item_at numbers_from look rule_codes number_at check_item bad_window rule_too_large rule_counts rule_counted
+unfolding samples emitter.samples read_rule read_all in_turn item_at numbers_from look rule_codes number_at check_item bad_window rule_too_large rule_counts
+    rule_counted
     timed_in lower_in stack_from apply item_of horizon later_by timed item_code translate advanced_by executed execute shifted next has_flag
 samples_right =
     let rest : Each Computes (drop 15 samples) = ((emitted.samples_right).1.1.0, ((emitted.samples_right).0, (refl, tt))) in

@@ -12,7 +12,8 @@ use Rattle.sequencer.specs.Running.{verdicts, bad_clip}
 use Rattle.sequencer.specs.Samples.{RanRight, samples}
 
 pub samples_right : Each RanRight samples
-unfolding samples read_all in_turn item_at numbers_from look instruction_codes number_at instruction_of check_instruction code_counts code_counted reaches_in distance_in
+unfolding samples read_all in_turn item_at numbers_from look instruction_codes number_at instruction_of check_instruction code_counts code_counted reaches_in
+    distance_in
     code_too_large verdicts bad_clip output wires_from wire_of counter next later has_flag
 samples_right =
     ((refl, refl), ((refl, refl), ((refl, refl), ((refl, refl), ((refl, refl), tt)))))

@@ -3,7 +3,8 @@
 -- REACH: if j is 1, the counter becomes 0; else if i is 1, the counter isn't "none" and is below w, it rises by one;
 -- else it becomes "none". The bit is 1 unless "none"" and "05 i d LATER: bit i as it was d frames ago in reading order;
 -- 0 if there were fewer".
-use Rattle.std.specs.Prelude.{◌≡◌, Bool, true, false, not, cond, ◌&&◌, List, [], ◌∷◌, ◌++◌, ℕ, ◌+◌, ◌-◌, ◌≤◌, ◌<◌, ltb, length, get_or, drop}
+use Rattle.std.specs.Prelude.{◌≡◌, Bool, true, false, not, cond, ◌&&◌, List, [], ◌∷◌, ◌++◌, ℕ, ◌+◌, ◌-◌, ◌≤◌, ◌<◌, ltb}
+use Rattle.std.specs.Prelude.{length, get_or, drop}
 use Rattle.ground.specs.Frames.{Clip, has_flag}
 use Rattle.code.specs.Code.{Instruction, One, Flag, Nand, Reach, Later, Code}
 

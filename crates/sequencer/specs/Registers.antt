@@ -1,7 +1,8 @@
 -- Registers and one step. Document 01: "Registers: sixteen counters and 256 delay bits. Instructions take counters and
 -- delay bits in code order, a LATER's bits oldest first; unused registers stay as they are .. Fresh registers: every
 -- counter "none", every delay bit 0." A counter is kept as a number: 0 for "none", else one more than its count.
-use Rattle.std.specs.Prelude.{Bool, true, false, not, ◌&&◌, List, [], ◌∷◌, ◌++◌, ℕ, zero, suc, ◌+◌, ◌-◌, length, get_or, take, drop, set, replicate}
+use Rattle.std.specs.Prelude.{Bool, true, false, not, ◌&&◌, List, [], ◌∷◌, ◌++◌, ℕ, zero, suc, ◌+◌, ◌-◌, length, get_or}
+use Rattle.std.specs.Prelude.{take, drop, set, replicate}
 use Rattle.ground.specs.Frames.{has_flag}
 use Rattle.ground.specs.Limits.{limits}
 use Rattle.code.specs.Code.{Instruction, One, Flag, Nand, Reach, Later, Code}

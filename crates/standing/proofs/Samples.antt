@@ -28,7 +28,8 @@ example = ascii "rule 5 bytes 2 items\nhorizon 4\nmet 3 frames 4 states\n00 00 0
 
 -- they are the text, with what the search finds for the rule
 pub met_sample : (rest : List ℕ) → standing_text (length fifth) (read_rule fifth) (Found.Met 3 4) (0x00 ∷ 0x00 ∷ 0x01 ∷ rest) ≡ example
-unfolding ascii digits_in decimal spaced read_rule read_all in_turn item_at numbers_from look rule_codes number_at check_item bad_window rule_too_large rule_counts
+unfolding ascii digits_in decimal spaced read_rule read_all in_turn item_at numbers_from look rule_codes number_at check_item bad_window rule_too_large
+    rule_counts
     rule_counted timed_in lower_in stack_from apply item_of horizon
 met_sample rest = refl
 

@@ -15,7 +15,9 @@ use Rattle.ground.specs.Frames.{has_flag}
 use Rattle.ground.specs.Limits.{limits}
 use Rattle.ground.specs.Buffers.{byte_values, byte_of}
 use Rattle.sequencer.specs.declared.registers.Registers.{Registers}
-use Rattle.table.specs.Inner.Records.{counter_size, byte_bits, counter_bytes, key_bytes, counter_in, delay_in, link_size, bits_value, nibble_of, half_of, key_byte, Whole, Keeps, KeptBy, KeyWritten, CountersOf, DelaysOf, RegistersIn, link_place, chain_place, LinkWritten, Written, frame_place}
+use Rattle.table.specs.Inner.Records.{counter_size, byte_bits, counter_bytes, key_bytes, counter_in, delay_in, link_size, bits_value, nibble_of, half_of}
+use Rattle.table.specs.Inner.Records.{key_byte, Whole, Keeps, KeptBy, KeyWritten, CountersOf, DelaysOf, RegistersIn, link_place, chain_place, LinkWritten}
+use Rattle.table.specs.Inner.Records.{Written, frame_place}
 
 -- Bits as numbers
 

@@ -14,7 +14,8 @@ use Rattle.ground.specs.Limits.{limits}
 use Rattle.sequencer.specs.declared.registers.Registers.{Registers}
 use Rattle.table.proofs.Chains.{Down, chained_none, walk_first, walk_less, walk_more, walk_all, chained_more}
 use Rattle.table.specs.Inner.Index.{bucket_of, bucket_at, head_at, chain_at, Indexed, IndexedBy}
-use Rattle.table.specs.Inner.Records.{byte_at, Keeps, KeyOf, SameKey, link_at, link_place, chain_place, head_place, LinkWritten, Has, Written, record_at, room_in, frame_place}
+use Rattle.table.specs.Inner.Records.{byte_at, Keeps, KeyOf, SameKey, link_at, link_place, chain_place, head_place, LinkWritten, Has, Written, record_at}
+use Rattle.table.specs.Inner.Records.{room_in, frame_place}
 use Rattle.table.specs.Inner.Tables.{HasRoom, Filled, Looks, CanStore, Stores}
 use Rattle.table.specs.declared.Look.{Look}
 use Rattle.table.proofs.Words.{bucket_same, key_same, key_other, key_bucket}
@@ -65,7 +66,8 @@ module _ (table key : List ℕ) (bucket : ℕ) where
       → bucket_at (room_in table) table n ≡ bucket
   in_bucket e r k n keeps = key_bucket r key k (record_at table n) (room_in table) keeps ∙ sym e
 
-  pub looking_first : (at : ℕ) → bucket ≡ bucket_of (room_in table) (byte_at key) → bucket < room_in table → at ≡ head_at table bucket → Looking table key bucket at
+  pub looking_first : (at : ℕ) → bucket ≡ bucket_of (room_in table) (byte_at key) → bucket < room_in table → at ≡ head_at table bucket → Looking table key
+      bucket at
   looking_first at e inside head =
       record {
         own = e;
@@ -189,7 +191,8 @@ module _ (xs ys zs key : List ℕ) (n b link frame chain : ℕ) (r : Registers) 
 
   -- another record, in front of its head
   old_below : (m : ℕ) → m < n → (j : ℕ) → j < head_place → get_or (record_at end m) j 0 ≡ get_or (record_at xs m) j 0
-  old_below m less j l = head_below (put xs n ys) zs b (n + 1) head_inside h m j l ∙ ap (λ x. get_or x j 0) (put_other xs ys n inside whole m (λ e. omega arith))
+  old_below m less j l = head_below (put xs n ys) zs b (n + 1) head_inside h m j l ∙ ap (λ x. get_or x j 0)
+      (put_other xs ys n inside whole m (λ e. omega arith))
 
   -- the record's own write leaves all heads
   heads_same : (m : ℕ) → head_at (put xs n ys) m ≡ head_at xs m

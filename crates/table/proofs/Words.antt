@@ -13,7 +13,8 @@ use Rattle.ground.specs.Buffers.{byte_values}
 use Rattle.ground.specs.Limits.{limits}
 use Rattle.sequencer.specs.declared.registers.Registers.{Registers}
 use Rattle.table.specs.Inner.Index.{half_word, mixed, hashed, bucket_of}
-use Rattle.table.specs.Inner.Records.{key_bytes, word_bytes, word_of_eight, key_byte, value_of, word_of, byte_at, Whole, Keeps, KeyWord, KeyOf, KeyWords, SameKey}
+use Rattle.table.specs.Inner.Records.{key_bytes, word_bytes, word_of_eight, key_byte, value_of, word_of, byte_at, Whole, Keeps, KeyWord, KeyOf, KeyWords}
+use Rattle.table.specs.Inner.Records.{SameKey}
 use Rattle.table.proofs.Records.{one_more}
 
 -- Bytes as a number

@@ -4,7 +4,10 @@
 // bucket, and the last record of the bucket that has this record's number.
 ghost use Rattle.std.specs.Prelude.{◌≡◌, ◌+◌, ◌*◌, ◌≤◌, ◌<◌, length, drop};
 ghost use Rattle.ground.specs.Limits.{limits};
-ghost use Rattle.table.specs.Inner.Records.{byte_bits, word_bytes, key_bytes, word_of_eight, link_size, nibble_of, bits_value, half_of, key_byte, byte_at, word_of, most_link, Whole, RegistersIn, KeyWord, KeyOf, SameKey, KeyWritten, CountersOf, DelaysOf, link_at, LinkWritten, frame_in, Written};
+ghost use Rattle.table.specs.Inner.Records.{byte_bits, word_bytes, key_bytes, word_of_eight, link_size, nibble_of};
+ghost use Rattle.table.specs.Inner.Records.{bits_value, half_of, key_byte, byte_at, word_of, most_link, Whole};
+ghost use Rattle.table.specs.Inner.Records.{RegistersIn, KeyWord, KeyOf, SameKey, KeyWritten, CountersOf, DelaysOf};
+ghost use Rattle.table.specs.Inner.Records.{link_at, LinkWritten, frame_in, Written};
 
 use ground::byte::{byte_of, wide};
 use ground::limits::{COUNTERS, DELAYS};

@@ -3,7 +3,8 @@
 -- bucket. Contracts of inner functions cite it; `search` says nothing of it.
 use Rattle.std.specs.Prelude.{List, ℕ, zero, suc, ◌+◌, ◌*◌, ◌/◌, ◌%◌, ◌^◌, ◌-◌}
 use Rattle.table.specs.Inner.Chains.{Chained}
-use Rattle.table.specs.Inner.Records.{byte_bits, word_bytes, key_bytes, word_of, byte_at, link_at, chain_place, head_place, record_at, room_in}
+use Rattle.table.specs.Inner.Records.{byte_bits, word_bytes, key_bytes, word_of, byte_at, link_at, chain_place}
+use Rattle.table.specs.Inner.Records.{head_place, record_at, room_in}
 
 -- How many bits half a word has
 abbrev pub half_bits : ℕ

@@ -2,7 +2,8 @@
 -- counter, lowest first, and a bit for each delay bit; the link to the record that it came from, as its number and one
 -- more, or 0; the frame byte in front; and, for the index, the record before it in its bucket and the last record of a
 -- bucket. Contracts of inner functions cite it; `search` says nothing of it.
-use Rattle.std.specs.Prelude.{◌≡◌, Bool, true, false, cond, List, ℕ, zero, suc, ◌+◌, ◌*◌, ◌-◌, ◌/◌, ◌%◌, ◌≤◌, ◌<◌, ltb, length, get_or, take, drop}
+use Rattle.std.specs.Prelude.{◌≡◌, Bool, true, false, cond, List, ℕ, zero, suc, ◌+◌, ◌*◌, ◌-◌, ◌/◌, ◌%◌, ◌≤◌, ◌<◌, ltb}
+use Rattle.std.specs.Prelude.{length, get_or, take, drop}
 use Rattle.ground.specs.Buffers.{byte_values, AllBytes, byte_of}
 use Rattle.ground.specs.Frames.{has_flag}
 use Rattle.ground.specs.Limits.{limits}

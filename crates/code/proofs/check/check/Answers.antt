@@ -24,7 +24,8 @@ returns-then-bad_width c =
     let widths : check_row c.args.counts c.args.at c.args.row
     ≡ cond c.bad_width.result (CheckedInstruction.Refused (Refusal.BadWidth c.args.at))
     (cond (code_too_large (counted_row c.args.counts c.args.row)) (CheckedInstruction.Refused (Refusal.CodeTooLarge c.args.at))
-    (CheckedInstruction.Next (counted_row c.args.counts c.args.row))) = rw (le-ltb limits.flag c.args.row.flag (omega arith), le-ltb c.args.counts.instructions c.args.row.needs (omega arith), ← c.bad_width.ensures) in
+    (CheckedInstruction.Next (counted_row c.args.counts c.args.row))) = rw
+    (le-ltb limits.flag c.args.row.flag (omega arith), le-ltb c.args.counts.instructions c.args.row.needs (omega arith), ← c.bad_width.ensures) in
     rw (widths, c.if-bad_width.true)
 
 pub returns-then-too_large : goal.returns-then-too_large
@@ -33,7 +34,8 @@ returns-then-too_large c =
     let widths : check_row c.args.counts c.args.at c.args.row
     ≡ cond c.bad_width.result (CheckedInstruction.Refused (Refusal.BadWidth c.args.at))
     (cond (code_too_large (counted_row c.args.counts c.args.row)) (CheckedInstruction.Refused (Refusal.CodeTooLarge c.args.at))
-    (CheckedInstruction.Next (counted_row c.args.counts c.args.row))) = rw (le-ltb limits.flag c.args.row.flag (omega arith), le-ltb c.args.counts.instructions c.args.row.needs (omega arith), ← c.bad_width.ensures) in
+    (CheckedInstruction.Next (counted_row c.args.counts c.args.row))) = rw
+    (le-ltb limits.flag c.args.row.flag (omega arith), le-ltb c.args.counts.instructions c.args.row.needs (omega arith), ← c.bad_width.ensures) in
     rw (widths, c.if-bad_width.false, ← c.counted-next.ensures, ← c.too_large.ensures, c.if-too_large.true)
 
 pub returns : goal.returns
@@ -42,5 +44,6 @@ returns c =
     let widths : check_row c.args.counts c.args.at c.args.row
     ≡ cond c.bad_width.result (CheckedInstruction.Refused (Refusal.BadWidth c.args.at))
     (cond (code_too_large (counted_row c.args.counts c.args.row)) (CheckedInstruction.Refused (Refusal.CodeTooLarge c.args.at))
-    (CheckedInstruction.Next (counted_row c.args.counts c.args.row))) = rw (le-ltb limits.flag c.args.row.flag (omega arith), le-ltb c.args.counts.instructions c.args.row.needs (omega arith), ← c.bad_width.ensures) in
+    (CheckedInstruction.Next (counted_row c.args.counts c.args.row))) = rw
+    (le-ltb limits.flag c.args.row.flag (omega arith), le-ltb c.args.counts.instructions c.args.row.needs (omega arith), ← c.bad_width.ensures) in
     rw (widths, c.if-bad_width.false, ← c.counted-next.ensures, ← c.too_large.ensures, c.if-too_large.false)

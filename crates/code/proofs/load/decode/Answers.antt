@@ -25,7 +25,8 @@ bounds-numbers-base c =
     let is_item : Read.Item c.in-Item.code c.in-Item.first c.in-Item.second c.in-Item.third c.in-Item.next
     ≡ item_at Table.Code c.args.bytes.now c.loop-code.at = sym c.in-Item.is ∙ c.read_item.ensures in
     let is_next : CheckedInstruction.Next c.in-Next.more ≡ check_row c.loop-code.counts c.loop-code.at c.row_of.result = sym c.in-Next.is ∙ c.check.ensures in
-    let room : c.loop-code.counts.instructions + 1 ≤ limits.instructions = turn_room _ _ _ _ c.loop-code.invariant _ _ _ _ _ (is_item) _ c.row_of.ensures _ _ (is_next) in
+    let room : c.loop-code.counts.instructions + 1 ≤ limits.instructions = turn_room _ _ _ _ c.loop-code.invariant _ _ _ _ _ (is_item) _ c.row_of.ensures _ _
+    (is_next) in
     omega (arith, room)
 
 pub bounds-numbers-base-in-Next : goal.bounds-numbers-base-in-Next
@@ -33,7 +34,8 @@ bounds-numbers-base-in-Next c =
     let is_item : Read.Item c.in-Item.code c.in-Item.first c.in-Item.second c.in-Item.third c.in-Item.next
     ≡ item_at Table.Code c.args.bytes.now c.loop-code.at = sym c.in-Item.is ∙ c.read_item.ensures in
     let is_next : CheckedInstruction.Next c.in-Next.more ≡ check_row c.loop-code.counts c.loop-code.at c.row_of.result = sym c.in-Next.is ∙ c.check.ensures in
-    let room : c.loop-code.counts.instructions + 1 ≤ limits.instructions = turn_room _ _ _ _ c.loop-code.invariant _ _ _ _ _ (is_item) _ c.row_of.ensures _ _ (is_next) in
+    let room : c.loop-code.counts.instructions + 1 ≤ limits.instructions = turn_room _ _ _ _ c.loop-code.invariant _ _ _ _ _ (is_item) _ c.row_of.ensures _ _
+    (is_next) in
     omega (arith, room)
 
 pub bounds-numbers-base-in-Next-2 : goal.bounds-numbers-base-in-Next-2
@@ -41,7 +43,8 @@ bounds-numbers-base-in-Next-2 c =
     let is_item : Read.Item c.in-Item.code c.in-Item.first c.in-Item.second c.in-Item.third c.in-Item.next
     ≡ item_at Table.Code c.args.bytes.now c.loop-code.at = sym c.in-Item.is ∙ c.read_item.ensures in
     let is_next : CheckedInstruction.Next c.in-Next.more ≡ check_row c.loop-code.counts c.loop-code.at c.row_of.result = sym c.in-Next.is ∙ c.check.ensures in
-    let room : c.loop-code.counts.instructions + 1 ≤ limits.instructions = turn_room _ _ _ _ c.loop-code.invariant _ _ _ _ _ (is_item) _ c.row_of.ensures _ _ (is_next) in
+    let room : c.loop-code.counts.instructions + 1 ≤ limits.instructions = turn_room _ _ _ _ c.loop-code.invariant _ _ _ _ _ (is_item) _ c.row_of.ensures _ _
+    (is_next) in
     omega (arith, room)
 
 pub bounds-numbers-base-in-Next-3 : goal.bounds-numbers-base-in-Next-3
@@ -49,7 +52,8 @@ bounds-numbers-base-in-Next-3 c =
     let is_item : Read.Item c.in-Item.code c.in-Item.first c.in-Item.second c.in-Item.third c.in-Item.next
     ≡ item_at Table.Code c.args.bytes.now c.loop-code.at = sym c.in-Item.is ∙ c.read_item.ensures in
     let is_next : CheckedInstruction.Next c.in-Next.more ≡ check_row c.loop-code.counts c.loop-code.at c.row_of.result = sym c.in-Next.is ∙ c.check.ensures in
-    let room : c.loop-code.counts.instructions + 1 ≤ limits.instructions = turn_room _ _ _ _ c.loop-code.invariant _ _ _ _ _ (is_item) _ c.row_of.ensures _ _ (is_next) in
+    let room : c.loop-code.counts.instructions + 1 ≤ limits.instructions = turn_room _ _ _ _ c.loop-code.invariant _ _ _ _ _ (is_item) _ c.row_of.ensures _ _
+    (is_next) in
     omega (arith, room)
 
 pub loop-code-smaller : goal.loop-code-smaller

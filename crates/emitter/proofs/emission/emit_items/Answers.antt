@@ -21,9 +21,5 @@ loop-k-preserved c =
     let i = c.loop-k.invariant in
     (i.0, stands_more _ _ _ i.0 _ _ _ i.1 (omega arith) _ c.item_of-item.ensures _ _ c.emit_next-emission.ensures, omega arith)
 
--- NO GOAL FOR same_length
--- same_length : tie.Need-same-length invariant-loop decreases-loop
--- same_length c = let i = c.before.loop.invariant in stands_length _ _ _ _ _ i.1
-
 pub returns : goal.returns
 returns c = let i = c.loop-k.invariant in stands_all _ _ _ i.0 _ _ _ i.1 (omega arith)

@@ -6,5 +6,14 @@ use Rattle.emitter.proofs.write.nand.Goals as goal
 
 pub returns : goal.returns
 returns c =
-    wrote (Nand _ _) _ _ _ _ c.requires
-    (_, _, (c.write_number-code.ensures.buffer, c.write_number-code.ensures.place), (_, _, (c.write_number-first.ensures.buffer, c.write_number-first.ensures.place), (_, _, (c.write_number-at.ensures.buffer, c.write_number-at.ensures.place), (refl, refl))))
+    wrote (Nand _ _) _ _ _ _ c.requires (
+      _,
+      _,
+      (c.write_number-code.ensures.buffer, c.write_number-code.ensures.place),
+      (
+        _,
+        _,
+        (c.write_number-first.ensures.buffer, c.write_number-first.ensures.place),
+        (_, _, (c.write_number-at.ensures.buffer, c.write_number-at.ensures.place), (refl, refl)),
+      ),
+    )

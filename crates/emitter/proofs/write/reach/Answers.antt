@@ -14,6 +14,11 @@ returns c =
         _,
         _,
         (c.write_number-first.ensures.buffer, c.write_number-first.ensures.place),
-        (_, _, (c.write_number-second.ensures.buffer, c.write_number-second.ensures.place), (_, _, (c.write_number-at.ensures.buffer, c.write_number-at.ensures.place), (refl, refl))),
+        (
+          _,
+          _,
+          (c.write_number-second.ensures.buffer, c.write_number-second.ensures.place),
+          (_, _, (c.write_number-at.ensures.buffer, c.write_number-at.ensures.place), (refl, refl)),
+        ),
       ),
     )

@@ -28,17 +28,20 @@ loop-passed-init c =
 
 pub returns-then-kept : goal.returns-then-kept
 returns-then-kept c =
-    let tried_all : Exploring (code_as c.args.numbers.now) c.try_length-trials.new.table c.loop-passed.ended 0 c.loop-passed.ended c.try_length-trials.result.kept = subst (TriedTo _ _ _ _ _ _) c.if-trials.false c.try_length-trials.ensures in
+    let tried_all : Exploring (code_as c.args.numbers.now) c.try_length-trials.new.table c.loop-passed.ended 0 c.loop-passed.ended
+    c.try_length-trials.result.kept = subst (TriedTo _ _ _ _ _ _) c.if-trials.false c.try_length-trials.ensures in
     to_no_room (tried_all) c.loop-passed.invariant.0.sound.good refl c.if-kept.true
 
 pub returns-then-kept-ended : goal.returns-then-kept-ended
 returns-then-kept-ended c =
-    let tried_all : Exploring (code_as c.args.numbers.now) c.try_length-trials.new.table c.loop-passed.ended 0 c.loop-passed.ended c.try_length-trials.result.kept = subst (TriedTo _ _ _ _ _ _) c.if-trials.false c.try_length-trials.ensures in
+    let tried_all : Exploring (code_as c.args.numbers.now) c.try_length-trials.new.table c.loop-passed.ended 0 c.loop-passed.ended
+    c.try_length-trials.result.kept = subst (TriedTo _ _ _ _ _ _) c.if-trials.false c.try_length-trials.ensures in
     to_none (tried_all) c.loop-passed.invariant.0.sound.good refl c.if-kept.false c.if-kept-ended.true
 
 pub loop-passed-preserved : goal.loop-passed-preserved
 loop-passed-preserved c =
-    let tried_all : Exploring (code_as c.args.numbers.now) c.try_length-trials.new.table c.loop-passed.ended 0 c.loop-passed.ended c.try_length-trials.result.kept = subst (TriedTo _ _ _ _ _ _) c.if-trials.false c.try_length-trials.ensures in
+    let tried_all : Exploring (code_as c.args.numbers.now) c.try_length-trials.new.table c.loop-passed.ended 0 c.loop-passed.ended
+    c.try_length-trials.result.kept = subst (TriedTo _ _ _ _ _ _) c.if-trials.false c.try_length-trials.ensures in
     let tries = c.loop-passed.invariant.0 in
     let next = to_next_length (tried_all) refl c.if-kept.false in
     (record { sound = tries.sound; passes = tries.passes; exploring = next }, c.try_length-trials.auto.table ∙ c.loop-passed.invariant.1)

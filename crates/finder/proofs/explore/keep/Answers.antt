@@ -9,7 +9,8 @@ use Rattle.finder.proofs.explore.keep.Goals as goal
 
 pub returns-then-table-kept : goal.returns-then-table-kept
 returns-then-table-kept c =
-    let nowhere : Looks c.args.table.now c.args.kept.stored c.args.registers Look.Nowhere = subst (Looks _ _ _) c.in-Nowhere.is (c.find.ensures _ (filled c.requires.2.exploring)) in
+    let nowhere : Looks c.args.table.now c.args.kept.stored c.args.registers Look.Nowhere = subst (Looks _ _ _) c.in-Nowhere.is
+    (c.find.ensures _ (filled c.requires.2.exploring)) in
     keeping_full _ _ _ _ _ (nowhere) (omega (arith, c.if-table-kept.true))
 
 pub returns-in-At : goal.returns-in-At
@@ -19,5 +20,6 @@ returns-in-At c =
 
 pub returns-else-table-kept : goal.returns-else-table-kept
 returns-else-table-kept c =
-    let nowhere : Looks c.args.table.now c.args.kept.stored c.args.registers Look.Nowhere = subst (Looks _ _ _) c.in-Nowhere.is (c.find.ensures _ (filled c.requires.2.exploring)) in
+    let nowhere : Looks c.args.table.now c.args.kept.stored c.args.registers Look.Nowhere = subst (Looks _ _ _) c.in-Nowhere.is
+    (c.find.ensures _ (filled c.requires.2.exploring)) in
     keeping_new _ _ _ _ _ (nowhere) (omega (arith, c.if-table-kept.false)) _ c.store.ensures

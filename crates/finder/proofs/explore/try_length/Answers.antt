@@ -7,14 +7,16 @@ use Rattle.finder.specs.Inner.Explore.{TrialTo}
 use Rattle.table.proofs.Records.{kept_by}
 use Rattle.finder.proofs.Trials.{BeforeByte, bytes_first, bytes_passed, bytes_more, states_more}
 use Rattle.finder.proofs.explore.try_length.Goals as goal
-use Rattle.finder.proofs.explore.try_length.Goals.{else-loop-frame-test, then-loop-frame-test+then-passed-frame+else-frame-lt255, then-loop-frame-test+else-passed-frame+else-trial+else-frame-lt255-2}
+use Rattle.finder.proofs.explore.try_length.Goals.{else-loop-frame-test, then-loop-frame-test+then-passed-frame+else-frame-lt255}
+use Rattle.finder.proofs.explore.try_length.Goals.{then-loop-frame-test+else-passed-frame+else-trial+else-frame-lt255-2}
 
 pub loop-frame-init : goal.loop-frame-init
 loop-frame-init c =
     (bytes_first _ _ _ _ _ _ _ _ c.all.invariant c.all-test.true _ (kept_by c.registers_at-registers.ensures), omega arith)
 
 pub loop-frame-preserved-then-passed-frame : goal.loop-frame-preserved-then-passed-frame
-loop-frame-preserved-then-passed-frame c = (bytes_passed _ _ _ c.loop-frame.invariant.0 _ refl c.loop-frame.invariant.1 c.if-passed-frame.true, omega (arith, c.if-frame-lt255.true))
+loop-frame-preserved-then-passed-frame c =
+    (bytes_passed _ _ _ c.loop-frame.invariant.0 _ refl c.loop-frame.invariant.1 c.if-passed-frame.true, omega (arith, c.if-frame-lt255.true))
 
 pub loop-frame-preserved : goal.loop-frame-preserved
 loop-frame-preserved c =

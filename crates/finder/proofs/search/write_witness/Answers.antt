@@ -19,9 +19,5 @@ pub loop-link-preserved : goal.loop-link-preserved
 loop-link-preserved c =
     walks_more _ _ _ _ c.loop-link.invariant c.loop-link-test.true _ c.frame_at.ensures _ c.link_at-link-in-loop-link.ensures
 
--- NO GOAL FOR same_length
--- same_length : tie.Need-same-length invariant-loop decreases-loop
--- same_length c = let a = c.before.before.before.before.before.args in c.before.loop.invariant.same ∙ list.length-set a.witness.now 0 a.frame
-
 pub returns : goal.returns
 returns c = walks_all _ _ _ _ c.loop-link.invariant c.loop-link-test.false c.args.witness.now refl

@@ -6,4 +6,5 @@ use Rattle.makers.proofs.make.conclude.Goals as goal
 pub returns-else-out-new : goal.returns-else-out-new
 returns-else-out-new c =
     let out = c.args.out.now in
-    new_length _ out _ _ (sym c.in-Accepted.is ∙ c.load.ensures) _ _ c.if-out-new.false (c.write_bytes-length.ensures.buffer, c.write_bytes-length.ensures.place)
+    new_length _ out _ _ (sym c.in-Accepted.is ∙ c.load.ensures) _ _ c.if-out-new.false
+    (c.write_bytes-length.ensures.buffer, c.write_bytes-length.ensures.place)

@@ -22,18 +22,6 @@ pub bounds-bits-count : goal.bounds-bits-count
 bounds-bits-count c = let (f, h, w) = c.loop-n.invariant in
     omega (arith, f.sound.some, all_written _ _ _ f w)
 
--- NO GOAL FOR same_length
--- same_length : tie.Need-same-length invariant-loop decreases-loop
--- same_length c = c.before.before.loop.invariant.2.size.counters
-
--- NO GOAL FOR same-length-2
--- same-length-2 : tie.Need-same-length-2 invariant-loop decreases-loop
--- same-length-2 c = c.before.before.loop.invariant.2.size.delays
-
--- NO GOAL FOR same-length-3
--- same-length-3 : tie.Need-same-length-3 invariant-loop decreases-loop
--- same-length-3 c = c.before.before.loop.invariant.2.size.bits
-
 pub returns : goal.returns
 returns c = let (f, h, w) = c.loop-n.invariant in
     through_all _ _ _ f w (omega arith) _ (omega (arith, f.sound.some))

@@ -15,10 +15,7 @@ loop-p-preserved c = (
   omega arith,
 )
 
--- NO GOAL FOR same_length
--- same_length : tie.Need-same-length invariant-loop decreases-loop
--- same_length c = simp length-set (long c.before)
-
 pub returns : goal.returns
 returns c = let last : c.loop-p.p ≡ c.args.last = omega arith in
-    rw (c.loop-p.invariant.0, last) (shifted_moved c.args.delays.now c.args.at (c.args.last + 1 - c.args.at) c.args.last (omega arith) (omega arith) (omega arith) c.args.newest)
+    rw (c.loop-p.invariant.0, last)
+    (shifted_moved c.args.delays.now c.args.at (c.args.last + 1 - c.args.at) c.args.last (omega arith) (omega arith) (omega arith) c.args.newest)

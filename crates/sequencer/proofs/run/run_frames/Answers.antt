@@ -8,9 +8,8 @@ loop-read-init c = (c.requires, runs_first _ _ _ c.requires)
 
 pub loop-read-preserved : goal.loop-read-preserved
 loop-read-preserved c = let i = c.loop-read.invariant in
-    let more = runs_more _ _ _ _ i.1 _ (omega arith) _ _ c.frame_through-bit.ensures in
-    (i.0, more (record { counters = c.counters-in-loop-read-1.given; delays = c.delays-in-loop-read-1.given; bits = c.bits-in-loop-read-1.given }) _ c.byte_of.ensures)
-
--- NO GOAL FOR same_length
--- same_length : tie.Need-same-length invariant-loop decreases-loop
--- same_length c = c.before.loop.invariant.1.all
+    let more = runs_more _ _ _ _ i.1 _ (omega arith) _ _ c.frame_through-bit.ensures in (
+      i.0,
+      more (record { counters = c.counters-in-loop-read-1.given; delays = c.delays-in-loop-read-1.given; bits = c.bits-in-loop-read-1.given }) _
+          c.byte_of.ensures,
+    )

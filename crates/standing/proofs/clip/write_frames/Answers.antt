@@ -16,4 +16,5 @@ pub returns : goal.returns
 unfolding ascii
 returns c =
     let line = line_left c.args.text.now c.args.at c.args.frames.now c.requires.0 c.requires.1 in
-    (behind _ _ (behind _ _ line (c.write_hex-first.ensures.buffer, c.write_hex-first.ensures.place)) c.write_rest-rest.ensures).finish (c.write_bytes.ensures.buffer, c.write_bytes.ensures.place)
+    (behind _ _ (behind _ _ line (c.write_hex-first.ensures.buffer, c.write_hex-first.ensures.place)) c.write_rest-rest.ensures).finish
+    (c.write_bytes.ensures.buffer, c.write_bytes.ensures.place)

@@ -8,14 +8,11 @@ pub loop-n-preserved : goal.loop-n-preserved
 unfolding ascii
 loop-n-preserved c =
     let inv = c.loop-n.invariant in (
-      behind_frame _ _ inv.0 c.loop-n-test.true (c.write_bytes-behind.ensures.buffer, c.write_bytes-behind.ensures.place) (c.write_hex-place.ensures.buffer, c.write_hex-place.ensures.place),
+      behind_frame _ _ inv.0 c.loop-n-test.true (c.write_bytes-behind.ensures.buffer, c.write_bytes-behind.ensures.place)
+          (c.write_hex-place.ensures.buffer, c.write_hex-place.ensures.place),
       c.write_hex-place.auto.text
           ∙ c.write_bytes-behind.auto.buffer ∙ inv.1,
     )
-
--- NO GOAL FOR same_length
--- same_length : tie.Need-same-length invariant-loop decreases-loop
--- same_length c = c.before.loop.invariant.1
 
 pub returns : goal.returns
 returns c = frames_done _ _ c.loop-n.invariant.0 c.loop-n-test.false

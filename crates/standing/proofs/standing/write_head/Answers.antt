@@ -9,5 +9,7 @@ pub returns : goal.returns
 unfolding ascii
 returns c =
     let lines = whole c.args.text.now 0 (head_text c.args.bytes c.args.items c.args.horizon) c.requires in
-    (behind _ _ (behind _ _ (behind _ _ lines (c.write_count-long.ensures.buffer, c.write_count-long.ensures.place)) (c.write_count-many.ensures.buffer, c.write_count-many.ensures.place)) (c.write_count-far.ensures.buffer, c.write_count-far.ensures.place)
+    (behind _ _
+    (behind _ _ (behind _ _ lines (c.write_count-long.ensures.buffer, c.write_count-long.ensures.place))
+    (c.write_count-many.ensures.buffer, c.write_count-many.ensures.place)) (c.write_count-far.ensures.buffer, c.write_count-far.ensures.place)
     ).finish (c.write_bytes.ensures.buffer, c.write_bytes.ensures.place)

@@ -19,13 +19,15 @@ frames_left text at states frames room p q r = behind _ _ (behind _ _ (behind _ 
 pub write_frames-requires : goal.write_frames-requires
 unfolding ascii
 write_frames-requires c =
-    let left = frames_left c.args.text.now c.args.at c.args.states c.args.frames.now c.requires.1 (c.write_count-met.ensures.buffer, c.write_count-met.ensures.place)
+    let left = frames_left c.args.text.now c.args.at c.args.states c.args.frames.now c.requires.1
+    (c.write_count-met.ensures.buffer, c.write_count-met.ensures.place)
     (c.write_count-counted.ensures.buffer, c.write_count-counted.ensures.place) (c.write_bytes-line.ensures.buffer, c.write_bytes-line.ensures.place) in
     (c.requires.0, left.room)
 
 pub returns : goal.returns
 unfolding ascii
 returns c =
-    let left = frames_left c.args.text.now c.args.at c.args.states c.args.frames.now c.requires.1 (c.write_count-met.ensures.buffer, c.write_count-met.ensures.place)
+    let left = frames_left c.args.text.now c.args.at c.args.states c.args.frames.now c.requires.1
+    (c.write_count-met.ensures.buffer, c.write_count-met.ensures.place)
     (c.write_count-counted.ensures.buffer, c.write_count-counted.ensures.place) (c.write_bytes-line.ensures.buffer, c.write_bytes-line.ensures.place) in
     left.finish c.write_frames.ensures

@@ -9,25 +9,29 @@ use Rattle.sequencer.proofs.registers.Registers.step.Goals as goal
 
 pub overflow_mul-length : goal.overflow_mul-length
 overflow_mul-length c =
-    let is_ready : HasCode c.args.code.now c.decode-program.result.numbers c.in-Accepted.count = let small : AllBytes c.args.code.now = λ i. omega (arith, c.type_inv.code i) in
+    let is_ready : HasCode c.args.code.now c.decode-program.result.numbers c.in-Accepted.count = let small : AllBytes c.args.code.now = λ i. omega
+    (arith, c.type_inv.code i) in
     ready _ _ _ small c.decode-program.ensures (sym c.in-Accepted.is) in
     omega (arith, (is_ready).many)
 
 pub slice_bounds-advance-end : goal.slice_bounds-advance-end
 slice_bounds-advance-end c =
-    let is_ready : HasCode c.args.code.now c.decode-program.result.numbers c.in-Accepted.count = let small : AllBytes c.args.code.now = λ i. omega (arith, c.type_inv.code i) in
+    let is_ready : HasCode c.args.code.now c.decode-program.result.numbers c.in-Accepted.count = let small : AllBytes c.args.code.now = λ i. omega
+    (arith, c.type_inv.code i) in
     ready _ _ _ small c.decode-program.ensures (sym c.in-Accepted.is) in
     omega (arith, (is_ready).inside)
 
 pub advance-advanced-requires : goal.advance-advanced-requires
 advance-advanced-requires c =
-    let is_ready : HasCode c.args.code.now c.decode-program.result.numbers c.in-Accepted.count = let small : AllBytes c.args.code.now = λ i. omega (arith, c.type_inv.code i) in
+    let is_ready : HasCode c.args.code.now c.decode-program.result.numbers c.in-Accepted.count = let small : AllBytes c.args.code.now = λ i. omega
+    (arith, c.type_inv.code i) in
     ready _ _ _ small c.decode-program.ensures (sym c.in-Accepted.is) in
     rw sub-zero (is_ready).sound
 
 pub returns-in-Accepted : goal.returns-in-Accepted
 returns-in-Accepted c =
-    let is_ready : HasCode c.args.code.now c.decode-program.result.numbers c.in-Accepted.count = let small : AllBytes c.args.code.now = λ i. omega (arith, c.type_inv.code i) in
+    let is_ready : HasCode c.args.code.now c.decode-program.result.numbers c.in-Accepted.count = let small : AllBytes c.args.code.now = λ i. omega
+    (arith, c.type_inv.code i) in
     ready _ _ _ small c.decode-program.ensures (sym c.in-Accepted.is) in
     stepped_ready _ _ _ (is_ready) _ _ _ (rw sub-zero at c.advance-advanced.ensures)
 
