@@ -33,9 +33,9 @@ pub frame_at_unique : (κs : _) (a : _) (r s : _) (x y : _) → frame_at.Post κ
 frame_at_unique κs a r s x y p q = cc
 
 looks_one : (table : List ℕ) (stored : ℕ) (registers : Registers) (r s : Look) → Looks table stored registers r → Looks table stored registers s → r ≡ s
-looks_one table stored registers (Look.At m) (Look.At n) (m-inside, m-keeps, m-last) (n_inside, n-keeps, n-last) =
-    by_cases (dec_lt m n) (λ h. absurd (m-last n h n_inside n-keeps)) λ h.
-    by_cases (dec_lt n m) (λ l. absurd (n-last m l m-inside m-keeps)) λ l.
+looks_one table stored registers (Look.At m) (Look.At n) (m_inside, m_keeps, m_last) (n_inside, n_keeps, n_last) =
+    by_cases (dec_lt m n) (λ h. absurd (m_last n h n_inside n_keeps)) λ h.
+    by_cases (dec_lt n m) (λ l. absurd (n_last m l m_inside m_keeps)) λ l.
     let same : m ≡ n = omega arith in
     ap Look.At same
 looks_one table stored registers (Look.At m) Look.Nowhere p q = absurd (q m p.0 p.1)
