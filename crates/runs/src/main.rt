@@ -25,7 +25,7 @@ use ground::refusal::{Refusal, number, place};
 use sequencer::registers::{Output, Registers};
 use sequencer::run::{Ran, run};
 use std::io;
-use std::io::{BufReader, BufWriter, ErrorKind, Read, Write};
+use std::io::{ErrorKind, Read, Write};
 
 // How many values a byte has, and two bytes.
 const BYTE_VALUES: usize = 256;
@@ -416,9 +416,7 @@ fn answer_next<R: Read, W: Write>(
     if !fill(input, &mut kind)? {
         return Ok(false);
     }
-    let more = read_first(input, out, kind[0], &mut *first, &mut *second, &mut *third)?;
-    out.flush()?;
-    Ok(more)
+    read_first(input, out, kind[0], &mut *first, &mut *second, &mut *third)
 }
 
 // A proved loop has to end, and nothing says that the stream does: the turns are counted down, from a number that no
@@ -441,7 +439,11 @@ fn main(rt: HostRuntime) -> io::Result<()> {
     let mut first = [0; MOST_BYTES];
     let mut second = [0; MOST_BYTES];
     let mut third = [0; MOST_BYTES];
-    let mut input = BufReader::new(rt.alloc(), rt.reader())?;
-    let mut out = BufWriter::new(rt.alloc(), io::writer(&rt))?;
-    answer_all(&mut input, &mut out, &mut first, &mut second, &mut third)
+    answer_all(
+        &mut rt.reader(),
+        &mut io::writer(&rt),
+        &mut first,
+        &mut second,
+        &mut third,
+    )
 }
