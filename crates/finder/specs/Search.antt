@@ -3,8 +3,8 @@
 -- witness goes into the first bytes of its buffer in frame order, the rest unchanged. An answer gives met or not, the
 -- length (0 if not) and the number of states counted as in demand 2. The table is all zero after every answer and after
 -- refusal 15. "None exists" leaves the witness buffer unchanged." A state is "the value of all registers of the emitted
--- code", and a clip reaches the one "that its frames, last to first, lead to from fresh registers": `steps_over (code_for
--- f)`.
+-- code", and a clip reaches the one "that its frames, last to first, lead to from fresh registers":
+-- `steps_over (code_for f)`.
 use Rattle.std.specs.Prelude.{◌≡◌, Bool, true, false, List, ℕ, ◌+◌, ltb, length, replicate}
 use Rattle.ground.specs.Buffers.{over}
 use Rattle.ground.specs.Frames.{Clip}

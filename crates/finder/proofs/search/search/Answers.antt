@@ -1,5 +1,4 @@
 -- `search` meets its contract: the rule's refusal, 14, or what the search by the rule's code answers.
--- the rule is a row of bytes
 use native.Mathlib.Nat.{sub-zero}
 use native.Mathlib.Omega.{arith}
 use Rattle.finder.proofs.Answered.{horizon_near, count_few, numbers_inside, can_search, refusal_said, says_short, says_answers}

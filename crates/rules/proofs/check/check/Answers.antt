@@ -8,6 +8,22 @@ use Rattle.ground.specs.declared.refusal.Refusal.{Refusal}
 use Rattle.rules.specs.Loading.{check_item}
 use Rattle.rules.specs.declared.check.CheckedItem.{CheckedItem}
 use Rattle.rules.proofs.check.check.Goals as goal
+use Rattle.rules.proofs.check.check.Goals.{After-too_large}
+
+-- past the first three tests the last one decides
+settled : (c : After-too_large) →
+    check_item c.args.counts c.args.at c.args.row
+    ≡ cond c.too_large.result (CheckedItem.Refused (Refusal.RuleTooLarge c.args.at)) (CheckedItem.Next c.counted-next.result)
+unfolding check_item
+settled c =
+    rw (
+      le-ltb limits.flag c.args.row.flag (omega arith),
+      ← c.bad_window-bad.ensures,
+      c.if-bad.false,
+      le-ltb c.args.counts.depth c.args.row.operands c.if-few.false,
+      ← c.counted-next.ensures,
+      ← c.too_large.ensures,
+    )
 
 pub returns-then-row-gt-MOST_FLAG : goal.returns-then-row-gt-MOST_FLAG
 unfolding check_item
@@ -33,29 +49,9 @@ returns-then-few c =
     )
 
 pub returns-then-too_large : goal.returns-then-too_large
-unfolding check_item
 returns-then-too_large c =
-    let settled : check_item c.args.counts c.args.at c.args.row
-    ≡ cond c.too_large.result (CheckedItem.Refused (Refusal.RuleTooLarge c.args.at)) (CheckedItem.Next c.counted-next.result) = rw (
-      le-ltb limits.flag c.args.row.flag (omega arith),
-      ← c.bad_window-bad.ensures,
-      c.if-bad.false,
-      le-ltb c.args.counts.depth c.args.row.operands c.if-few.false,
-      ← c.counted-next.ensures,
-      ← c.too_large.ensures,
-    ) in
-    rw (settled, c.if-too_large.true)
+    rw (settled (goal.at.returns-then-too_large c).After-too_large, c.if-too_large.true)
 
 pub returns : goal.returns
-unfolding check_item
 returns c =
-    let settled : check_item c.args.counts c.args.at c.args.row
-    ≡ cond c.too_large.result (CheckedItem.Refused (Refusal.RuleTooLarge c.args.at)) (CheckedItem.Next c.counted-next.result) = rw (
-      le-ltb limits.flag c.args.row.flag (omega arith),
-      ← c.bad_window-bad.ensures,
-      c.if-bad.false,
-      le-ltb c.args.counts.depth c.args.row.operands c.if-few.false,
-      ← c.counted-next.ensures,
-      ← c.too_large.ensures,
-    ) in
-    rw (settled, c.if-too_large.false)
+    rw (settled (goal.at.returns c).After-too_large, c.if-too_large.false)
