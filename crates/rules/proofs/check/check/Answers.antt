@@ -10,21 +10,6 @@ use Rattle.rules.specs.declared.check.CheckedItem.{CheckedItem}
 use Rattle.rules.proofs.check.check.Goals as goal
 use Rattle.rules.proofs.check.check.Goals.{After-too_large}
 
--- past the first three tests the last one decides
-settled : (c : After-too_large) →
-    check_item c.args.counts c.args.at c.args.row
-    ≡ cond c.too_large.result (CheckedItem.Refused (Refusal.RuleTooLarge c.args.at)) (CheckedItem.Next c.counted-next.result)
-unfolding check_item
-settled c =
-    rw (
-      le-ltb limits.flag c.args.row.flag (omega arith),
-      ← c.bad_window-bad.ensures,
-      c.if-bad.false,
-      le-ltb c.args.counts.depth c.args.row.operands c.if-few.false,
-      ← c.counted-next.ensures,
-      ← c.too_large.ensures,
-    )
-
 pub returns-then-row-gt-MOST_FLAG : goal.returns-then-row-gt-MOST_FLAG
 unfolding check_item
 returns-then-row-gt-MOST_FLAG c = rw (lt-ltb limits.flag c.args.row.flag (omega arith))
@@ -46,6 +31,21 @@ returns-then-few c =
       ← c.bad_window-bad.ensures,
       c.if-bad.false,
       lt-ltb c.args.counts.depth c.args.row.operands c.if-few.true,
+    )
+
+-- past the first three tests the last one decides
+settled : (c : After-too_large) →
+    check_item c.args.counts c.args.at c.args.row
+    ≡ cond c.too_large.result (CheckedItem.Refused (Refusal.RuleTooLarge c.args.at)) (CheckedItem.Next c.counted-next.result)
+unfolding check_item
+settled c =
+    rw (
+      le-ltb limits.flag c.args.row.flag (omega arith),
+      ← c.bad_window-bad.ensures,
+      c.if-bad.false,
+      le-ltb c.args.counts.depth c.args.row.operands c.if-few.false,
+      ← c.counted-next.ensures,
+      ← c.too_large.ensures,
     )
 
 pub returns-then-too_large : goal.returns-then-too_large
