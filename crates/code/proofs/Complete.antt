@@ -13,7 +13,9 @@ use Rattle.ground.specs.Limits.{limits}
 use Rattle.ground.specs.Padded.{padded}
 use Rattle.reading.specs.declared.item.Table.{Table}
 use Rattle.reading.proofs.InTurn.{Numbered, Passes, all_there}
-use Rattle.code.specs.Code.{Instruction, One, Flag, Nand, Reach, Later, Code, instruction_of, bytes_of_instruction}
+use Rattle.code.specs.declared.instruction.Instruction.{Instruction}
+use Rattle.code.specs.declared.instruction.Instruction.TheVariants.{One, Flag, Nand, Reach, Later}
+use Rattle.code.specs.Code.{Code, instruction_of, bytes_of_instruction}
 use Rattle.code.specs.Good.{FineInstruction, GoodCode}
 use Rattle.code.specs.Loading.{instruction_outcome, code_kind, read_code}
 use Rattle.code.proofs.Instructions.{instruction_bytes}

@@ -9,10 +9,12 @@ use native.Mathlib.Omega.{arith}
 use lib.ListN.{length, get_or, take, length-append, get_or-append}
 use lib.Seq.{take-suc, take_all, take-append-le, take-append_seam, get_or-append_seam}
 use Rattle.ground.specs.Limits.{limits}
-use Rattle.code.specs.Code.{Instruction, One, Code}
+use Rattle.ground.proofs.Each.{each_of}
+use Rattle.code.specs.declared.instruction.Instruction.{Instruction}
+use Rattle.code.specs.declared.instruction.Instruction.TheVariants.{One, Flag, Nand, Reach, Later}
+use Rattle.code.specs.Code.{Code}
 use Rattle.code.specs.Loading.{reach_of, distance_of, reaches_in, distance_in, code_counts}
-use Rattle.code.specs.Inner.Rows.{row_of_instruction}
-use Rattle.code.specs.Good.{CodeWithin, FineInstruction, GoodCode, HasLines}
+use Rattle.code.specs.Good.{CodeWithin, FitsBehind, FineInstruction, GoodCode, HasLine, HasLines}
 
 pub reaches_append : (is js : Code) → reaches_in (is ++ js) ≡ reaches_in is + reaches_in js
 unfolding reaches_in
@@ -64,12 +66,16 @@ pub good_delays : (code : Code) → GoodCode code → distance_in code ≤ limit
 unfolding code_counts
 good_delays code g = (good_within code g).distance
 
+-- a LATER that fits has a line
+line : (n : ℕ) (i : Instruction) → FitsBehind n i → HasLine i
+line n One f = tt
+line n (Flag k) f = tt
+line n (Nand i j) f = tt
+line n (Reach i j w) f = tt
+line n (Later i d) f = omega arith
+
 pub good_lines : (code : Code) → GoodCode code → HasLines code
-good_lines code g = go code (λ n h. (g n h).some)
-  where
-    go : (is : Code) → ((n : ℕ) → n < length is → (row_of_instruction (get_or is n One)).later ≤ distance_of (get_or is n One)) → HasLines is
-    go [] f = tt
-    go (i ∷ is) f = (f 0 (omega arith), go is (λ n h. f (suc n) (omega arith)))
+good_lines code g = each_of HasLine code One (λ n h. line _ _ (g n h).fits)
 
 pub good_none : GoodCode []
 good_none n h = absurd (omega arith)

@@ -2,7 +2,6 @@
 pub mod Instructions
 pub mod Counting
 pub mod Checking
-pub mod Flat
 pub mod Turns
 pub mod Accepted
 pub mod Complete

@@ -1,42 +1,37 @@
--- The walk over code turn by turn. `CodeTurn` says where it stands: the instructions read are good and counted, the array holds their numbers, and the bytes
+-- The walk over code turn by turn. `CodeTurn` says where it stands: the instructions read are good and counted, the array holds them, and the bytes
 -- from here on, after these instructions, give what all the bytes give. Each way out of a turn is a law: one instruction more, the end, or a refusal.
 use mathlib.Core.Path.{◌≡◌, refl, sym, ap}
 use mathlib.Core.List.{List, [], ◌∷◌, ◌++◌}
-use Prim.Native.Nat.{ℕ, ◌+◌, ◌*◌, ◌≤◌}
+use Prim.Native.Nat.{ℕ, ◌<◌}
 use native.Mathlib.Omega.{arith}
 use lib.ListN.{length, set, replicate}
+use Rattle.std.specs.Prelude.{None, Some, Ok, Err}
 use Rattle.ground.specs.Buffers.{AllBytes}
 use Rattle.reading.specs.InTurn.{AllRead}
 use Rattle.reading.specs.Items.{item_at}
 use Rattle.ground.specs.Limits.{limits}
-use Rattle.ground.specs.Padded.{padded}
+use Rattle.ground.proofs.Buffers.{over_more}
 use Rattle.reading.specs.declared.item.Read.{Read}
 use Rattle.reading.specs.declared.item.Table.{Table}
 use Rattle.ground.specs.declared.refusal.Refusal.{Refusal}
-use Rattle.reading.proofs.Bytes.{item_back}
 use Rattle.reading.proofs.InTurn as in-turn
-use Rattle.code.specs.Code.{Code, instruction_of, per_instruction}
-use Rattle.code.specs.Inner.Rows.{row_of_instruction, check_row}
-use Rattle.code.specs.Loading.{code_counts, instruction_outcome, code_kind, read_code, most_code_numbers, program_of, flat, reaches_in, distance_in}
+use Rattle.code.specs.declared.instruction.Instruction.{Instruction}
+use Rattle.code.specs.declared.instruction.Instruction.TheVariants.{One}
+use Rattle.code.specs.Code.{Code, instruction_of}
+use Rattle.code.specs.Loading.{code_counts, check_instruction, instruction_outcome, code_kind, read_code, program_with, program_of, reaches_in, distance_in}
 use Rattle.code.specs.declared.check.CodeCounts.{CodeCounts}
-use Rattle.code.specs.declared.check.CheckedInstruction.{CheckedInstruction}
-use Rattle.code.specs.declared.check.InstructionRow.{InstructionRow}
-use Rattle.code.specs.declared.load.LoadedCode.{LoadedCode}
 use Rattle.code.specs.Good.{CodeWithin}
-use Rattle.code.proofs.Flat.{flat_more, flat_length, four_more}
-use Rattle.code.proofs.Instructions.{four_numbers_lem}
-use Rattle.code.proofs.Checking.{checked_row, Passed, passed}
+use Rattle.code.proofs.Checking.{Passed, passed}
 
-pub record CodeTurn (bytes numbers : List ℕ) (counts : CodeCounts) (at : ℕ) : Type 0 where
+pub record CodeTurn (bytes : List ℕ) (instructions : Code) (counts : CodeCounts) (at : ℕ) : Type 0 where
   pub code : Code
   pub turn : in-turn.Turn code_kind bytes at code
   pub own : counts ≡ code_counts code
   pub within : CodeWithin counts
-  pub array : numbers ≡ padded most_code_numbers (flat code)
+  pub array : instructions ≡ (program_with code).instructions
 
-pub turn_first : (bytes : List ℕ) → (length bytes ≡ 0 → ⊥) → CodeTurn bytes (replicate most_code_numbers 0)
-    (record { instructions = 0; reaches = 0; distance = 0 }) 0
-unfolding code_counts padded flat reaches_in distance_in
+pub turn_first : (bytes : List ℕ) → (length bytes ≡ 0 → ⊥) → CodeTurn bytes (replicate limits.instructions One) (code_counts []) 0
+unfolding code_counts reaches_in distance_in
 turn_first bytes h =
     record {
       code = [];
@@ -46,47 +41,39 @@ turn_first bytes h =
       array = refl;
     }
 
-module _ (bytes numbers : List ℕ) (counts : CodeCounts) (at : ℕ) (t : CodeTurn bytes numbers counts at) where
-  pub turn_end : Read.End ≡ item_at Table.Code bytes at
-      → record { loaded = LoadedCode.Accepted counts.instructions; numbers = numbers } ≡ program_of (read_code bytes)
-  unfolding program_of code_counts
+module _ (bytes : List ℕ) (instructions : Code) (counts : CodeCounts) (at : ℕ) (t : CodeTurn bytes instructions counts at) where
+  pub turn_end : Ok None ≡ item_at Table.Code bytes at
+      → Ok (record { instructions = instructions; count = counts.instructions }) ≡ program_of (read_code bytes)
+  unfolding code_counts
   turn_end e = rw (← (in-turn.turn_end code_kind bytes at t.code t.turn e), t.own, t.array)
 
-  pub turn_refused : (r : Refusal) → Read.Refused r ≡ item_at Table.Code bytes at → AllRead.refused r ≡ read_code bytes
+  pub turn_refused : (r : Refusal) → Err r ≡ item_at Table.Code bytes at → AllRead.refused r ≡ read_code bytes
   turn_refused r e = in-turn.turn_refused code_kind bytes at t.code t.turn r e
 
-  module _ (code i j k next : ℕ) (read : Read.Item code i j k next ≡ item_at Table.Code bytes at) (row : InstructionRow)
-      (own_row : row ≡ row_of_instruction (instruction_of code i j k)) where
-    pub turn_checked : (r : Refusal) → CheckedInstruction.Refused r ≡ check_row counts at row → AllRead.refused r ≡ read_code bytes
+  module _ (read : Read) (here : Ok (Some read) ≡ item_at Table.Code bytes at) (instruction : Instruction)
+      (own_instruction : instruction ≡ instruction_of read.code read.first read.second read.third) where
+    pub turn_checked : (r : Refusal) → Err r ≡ check_instruction counts at instruction → AllRead.refused r ≡ read_code bytes
     turn_checked r e =
-        in-turn.turn_checked code_kind bytes at t.code t.turn code i j k next read (instruction_of code i j k) refl r
-        (ap instruction_outcome (rw (own_row, t.own, checked_row) at e))
+        in-turn.turn_checked code_kind bytes at t.code t.turn _ _ _ _ _ here instruction own_instruction r (ap instruction_outcome (rw t.own at e))
 
-    -- an instruction that is checked and not refused, wherever it stands, has room
-    ready : (place : ℕ) (d : CodeCounts) → CheckedInstruction.Next d ≡ check_row counts place row → Passed t.code (instruction_of code i j k) d
-    ready place d e = passed t.code place (instruction_of code i j k) d (sym (rw (own_row, t.own) at e))
+    module _ (d : CodeCounts) (e : Ok d ≡ check_instruction counts at instruction) where
+      passes : Passed t.code instruction d
+      passes = passed t.code at instruction d (sym (rw t.own at e))
 
-    pub turn_room : (place : ℕ) (d : CodeCounts) → CheckedInstruction.Next d ≡ check_row counts place row → counts.instructions + 1 ≤ limits.instructions
-    unfolding code_counts
-    turn_room place d e = rw t.own (ready place d e).fine.instructions
+      -- an instruction that is checked and not refused has room
+      pub turn_room : counts.instructions < limits.instructions
+      unfolding code_counts
+      turn_room = rw t.own (omega (arith, passes.fine.instructions))
 
-    pub turn_more : (d : CodeCounts) → CheckedInstruction.Next d ≡ check_row counts at row → AllBytes bytes
-        → (v w x y : ℕ) → (v ≡ code) × (w ≡ i) × (x ≡ j) × (y ≡ k)
-        → let p = per_instruction * counts.instructions in
-        CodeTurn bytes (set (set (set (set numbers p v) (p + 1) w) (p + 2) x) (p + 3) y) d next
-    unfolding code_counts
-    turn_more d e small v w x y own =
-        let p = ready at d e in
-        let instruction = instruction_of code i j k in
-        let (fits, stands) = item_back Table.Code bytes at code i j k next small (sym read) in
-        let here : per_instruction * counts.instructions ≡ length (flat t.code) = rw t.own (sym (flat_length t.code)) in
-        let array = rw (← t.array, ← here, ← four_numbers_lem code fits.known i j k fits, ← flat_more)
-        at (four_more most_code_numbers (flat t.code) code i j k (omega (arith, flat_length t.code))) in
-        record {
-          code = t.code ++ instruction ∷ [];
-          turn = in-turn.turn_more code_kind bytes at t.code t.turn code i j k next read instruction refl
-              (ap instruction_outcome (rw (own_row, t.own, checked_row) at e)) (in-turn.forward Table.Code bytes at code i j k next small read);
-          own = p.counted;
-          within = p.within;
-          array = rw (own.0, own.1, own.2, own.3) array;
-        }
+      pub turn_more : AllBytes bytes → CodeTurn bytes (set instructions counts.instructions instruction) d read.next
+      unfolding code_counts
+      turn_more small =
+          let many : length t.code ≡ counts.instructions = rw t.own refl in
+          record {
+            code = t.code ++ instruction ∷ [];
+            turn = in-turn.turn_more code_kind bytes at t.code t.turn _ _ _ _ _ here instruction own_instruction
+                (ap instruction_outcome (rw t.own at e)) (in-turn.forward Table.Code bytes at _ _ _ _ _ small here);
+            own = passes.counted;
+            within = passes.within;
+            array = rw t.array (over_more t.code (replicate limits.instructions One) counts.instructions instruction many (omega (arith, turn_room)));
+          }

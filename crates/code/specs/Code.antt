@@ -3,14 +3,8 @@
 -- REACH, 05 i d LATER".
 use Rattle.std.specs.Prelude.{cond, List, [], ◌∷◌, ◌++◌, ℕ, eqb}
 use Rattle.reading.specs.Numbers.{number_bytes}
-
--- An instruction: i and j are numbers of instructions, k is a flag, w a width, d a distance
-pub data Instruction : Type 0 where
-  One : Instruction
-  Flag : ℕ → Instruction
-  Nand : ℕ → ℕ → Instruction
-  Reach : ℕ → ℕ → ℕ → Instruction
-  Later : ℕ → ℕ → Instruction
+use Rattle.code.specs.declared.instruction.Instruction.{Instruction}
+use Rattle.code.specs.declared.instruction.Instruction.TheVariants.{One, Flag, Nand, Reach, Later}
 
 -- Code: its instructions, in order
 abbrev pub Code : Type 0
@@ -23,18 +17,6 @@ instruction_of code i j k =
     (cond (eqb code 0x02) (Flag i)
     (cond (eqb code 0x03) (Nand i j)
     (cond (eqb code 0x04) (Reach i j k) (Later i j))))
-
--- How many numbers stand for an instruction
-abbrev pub per_instruction : ℕ
-per_instruction = 4
-
--- An instruction by four numbers: its code byte and those behind it; what it lacks is 0
-unfoldable pub four_numbers : Instruction → List ℕ
-four_numbers One = 0x01 ∷ 0 ∷ 0 ∷ 0 ∷ []
-four_numbers (Flag k) = 0x02 ∷ k ∷ 0 ∷ 0 ∷ []
-four_numbers (Nand i j) = 0x03 ∷ i ∷ j ∷ 0 ∷ []
-four_numbers (Reach i j w) = 0x04 ∷ i ∷ j ∷ w ∷ []
-four_numbers (Later i d) = 0x05 ∷ i ∷ d ∷ 0 ∷ []
 
 -- The bytes of an instruction: its code byte, and its numbers in the shortest form
 unfoldable pub bytes_of_instruction : Instruction → List ℕ

@@ -4,4 +4,3 @@ pub mod Loading
 pub mod Good
 pub mod Programs
 pub mod Samples
-pub mod Inner

@@ -2,17 +2,17 @@
 -- instructions, at most 16 REACH, LATER distances of 1 to 255 adding up to at most 256, w at most 255, operands that
 -- are earlier instructions", refused by "5 flag above 7", "10 operand not an earlier instruction", "11 w > 255, d = 0
 -- or d > 255" and "12 321st instruction, 17th REACH, or distances above 256", in this order.
-use Rattle.std.specs.Prelude.{Bool, false, cond, ◌||◌, List, [], ◌∷◌, ◌++◌, ℕ, ◌+◌, ◌*◌, eqb, leb, ltb, length}
+use Rattle.std.specs.Prelude.{Bool, false, cond, ◌||◌, List, [], ◌∷◌, ℕ, ◌+◌, ◌*◌, eqb, leb, ltb, length, replicate}
+use Rattle.std.specs.Prelude.{Result, Ok, Err}
 use Rattle.reading.specs.InTurn.{Outcome, fine, bad, Kind, AllRead, items, refused, read_all}
 use Rattle.ground.specs.Limits.{limits}
-use Rattle.ground.specs.Padded.{padded}
+use Rattle.ground.specs.Buffers.{over}
 use Rattle.reading.specs.declared.item.Table.{Table}
 use Rattle.ground.specs.declared.refusal.Refusal.{Refusal}
-use Rattle.code.specs.Code.{Instruction, One, Flag, Nand, Reach, Later, Code, instruction_of, per_instruction}
-use Rattle.code.specs.Code.{four_numbers}
+use Rattle.code.specs.declared.instruction.Instruction.{Instruction}
+use Rattle.code.specs.declared.instruction.Instruction.TheVariants.{One, Flag, Nand, Reach, Later}
+use Rattle.code.specs.Code.{Code, instruction_of}
 use Rattle.code.specs.declared.check.CodeCounts.{CodeCounts}
-use Rattle.code.specs.declared.check.CheckedInstruction.{CheckedInstruction}
-use Rattle.code.specs.declared.load.LoadedCode.{LoadedCode}
 use Rattle.code.specs.declared.load.Program.{Program}
 
 -- 5: a flag above 7
@@ -85,18 +85,18 @@ code_too_large c =
     || (ltb limits.counters c.reaches || ltb limits.delays c.distance)
 
 -- The instruction at a place, after instructions that are counted: 5, 10, 11, 12 in turn
-unfoldable pub check_instruction : CodeCounts → ℕ → Instruction → CheckedInstruction
+unfoldable pub check_instruction : CodeCounts → ℕ → Instruction → Result CodeCounts Refusal
 check_instruction c at i =
-    cond (flag_too_large i) (CheckedInstruction.Refused (Refusal.FlagTooLarge at))
-    (cond (not_earlier c.instructions i) (CheckedInstruction.Refused (Refusal.NotEarlier at))
-    (cond (bad_width i) (CheckedInstruction.Refused (Refusal.BadWidth at))
-    (cond (code_too_large (code_counted c i)) (CheckedInstruction.Refused (Refusal.CodeTooLarge at))
-    (CheckedInstruction.Next (code_counted c i)))))
+    cond (flag_too_large i) (Err (Refusal.FlagTooLarge at))
+    (cond (not_earlier c.instructions i) (Err (Refusal.NotEarlier at))
+    (cond (bad_width i) (Err (Refusal.BadWidth at))
+    (cond (code_too_large (code_counted c i)) (Err (Refusal.CodeTooLarge at))
+    (Ok (code_counted c i)))))
 
 -- What checking an instruction says
-abbrev pub instruction_outcome : CheckedInstruction → Outcome
-instruction_outcome (CheckedInstruction.Next c) = fine
-instruction_outcome (CheckedInstruction.Refused r) = bad r
+abbrev pub instruction_outcome : Result CodeCounts Refusal → Outcome
+instruction_outcome (Ok c) = fine
+instruction_outcome (Err r) = bad r
 
 -- What code is among what can be read in turn
 abbrev pub code_kind : Kind Instruction
@@ -116,24 +116,20 @@ abbrev pub most_code_place : ℕ
 most_code_place = 7 * limits.instructions
 
 -- What loading answers: how many instructions, or the refusal
-abbrev pub loaded_code_of : AllRead Instruction → LoadedCode
-loaded_code_of (items code) = LoadedCode.Accepted (length code)
-loaded_code_of (refused r) = LoadedCode.Refused r
+abbrev pub loaded_code_of : AllRead Instruction → Result ℕ Refusal
+loaded_code_of (items code) = Ok (length code)
+loaded_code_of (refused r) = Err r
 
 -- The instructions of accepted code
 abbrev pub code_of : AllRead Instruction → Code
 code_of (items code) = code
 code_of (refused r) = []
 
--- Instructions by four numbers each, one after the other
-unfoldable pub flat : Code → List ℕ
-flat [] = []
-flat (i ∷ is) = four_numbers i ++ flat is
+-- Code as loading keeps it: in an array of the longest code, with ONE behind, and how many instructions it is
+abbrev pub program_with : Code → Program
+program_with code = record { instructions = over code (replicate limits.instructions One); count = length code }
 
--- The numbers of the longest code
-abbrev pub most_code_numbers : ℕ
-most_code_numbers = per_instruction * limits.instructions
-
--- What loading keeps of code: the answer, and the instructions by their numbers, in an array with zeros behind
-unfoldable pub program_of : AllRead Instruction → Program
-program_of read = record { loaded = loaded_code_of read; numbers = padded most_code_numbers (flat (code_of read)) }
+-- What loading keeps of code: its instructions, or the refusal
+abbrev pub program_of : AllRead Instruction → Result Program Refusal
+program_of (items code) = Ok (program_with code)
+program_of (refused r) = Err r

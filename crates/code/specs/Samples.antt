@@ -1,9 +1,8 @@
 -- Samples of code: one table, and what it is for a row to be right. Document 01: the code of its sample of a run, and
 -- of "* Rule `12 00 32 02 04` emits `02 00 01 04 01 00 02 05 02 02`"; and code at the edges of the refusals.
-use Rattle.std.specs.Prelude.{◌≡◌, List, [], ◌∷◌, ℕ}
+use Rattle.std.specs.Prelude.{◌≡◌, List, [], ◌∷◌, ℕ, Ok, Err}
 use Rattle.ground.specs.declared.refusal.Refusal.{Refusal}
 use Rattle.code.specs.Loading.{read_code, loaded_code_of}
-use Rattle.code.specs.declared.load.LoadedCode.{LoadedCode}
 
 -- A row: code and how many instructions it has, or code and its refusal
 pub data Sample : Type 0 where
@@ -12,8 +11,8 @@ pub data Sample : Type 0 where
 
 -- A row is right by the definitions that the contracts cite
 abbrev pub CodeRight : Sample → Type 0
-CodeRight (accepts code n) = loaded_code_of (read_code code) ≡ LoadedCode.Accepted n
-CodeRight (refuses code refusal) = loaded_code_of (read_code code) ≡ LoadedCode.Refused refusal
+CodeRight (accepts code n) = loaded_code_of (read_code code) ≡ Ok n
+CodeRight (refuses code refusal) = loaded_code_of (read_code code) ≡ Err refusal
 
 -- The code of rule `12 00 12 01 30 01 03`: FLAG 0, FLAG 1, REACH of the two with w 2, LATER 1
 abbrev pub sample_code : List ℕ

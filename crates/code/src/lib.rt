@@ -2,4 +2,5 @@
 #![tactic(auto)]
 
 mod check;
+pub mod instruction;
 pub mod load;

@@ -14,26 +14,19 @@ use Rattle.rules.specs.Formula.{Formula}
 use Rattle.rules.specs.Items.{postfix}
 use Rattle.rules.specs.Loading.{Items}
 use Rattle.rules.specs.declared.item.Item.{Item}
-use Rattle.code.specs.Code.{Instruction, Code}
-use Rattle.code.specs.Good.{FineInstruction, GoodCode}
-use Rattle.code.specs.Loading.{distance_of, reaches_in, distance_in, read_code}
-use Rattle.code.specs.Inner.Rows.{row_of_instruction}
+use Rattle.code.specs.Code.{Code}
+use Rattle.code.specs.Good.{FitsBehind, FineInstruction, GoodCode}
+use Rattle.code.specs.Loading.{reaches_in, distance_in, read_code}
 use Rattle.code.proofs.Complete.{code_read}
 use Rattle.code.proofs.Counting.{reaches_more, distance_more, good_none, good_more}
 use Rattle.code.proofs.Instructions.{code_length}
 use Rattle.emitter.specs.Translation.{later_by, timed, item_code, behind, after_one, after_two, translate, code_for, code_bytes}
 use Rattle.emitter.proofs.Sizes.{Earlier, Grown, grown}
 
--- An instruction whose own numbers no test refuses, where so many are earlier
-abbrev Fits : ℕ → Instruction → Type 0
-Fits n i =
-    let row = row_of_instruction i in
-    (row.flag ≤ limits.flag) × (row.needs ≤ n) × (row.width ≤ limits.width) × (row.later ≤ distance_of i) × (distance_of i ≤ limits.distance)
-
--- instructions like that, where so many are earlier than the first
+-- instructions that fit behind those before them, where so many are earlier than the first
 abbrev Fit : ℕ → Code → Type 0
 Fit n [] = Unit {0}
-Fit n (i ∷ is) = Fits n i × Fit (n + 1) is
+Fit n (i ∷ is) = FitsBehind n i × Fit (n + 1) is
 
 fit_append : (n m : ℕ) (c d : Code) → n + length c ≡ m → Fit n c → Fit m d → Fit n (c ++ d)
 fit_append n m [] d e p q = let same : n ≡ m = omega arith in rw same q
@@ -104,18 +97,8 @@ all_fine : (is js : Code) → GoodCode is → CodeAhead is js → GoodCode (is +
 unfolding reaches_in distance_in
 all_fine is [] g a = rw append-nil g
 all_fine is (i ∷ js) g a =
-    let own : Fits (length is) i = a.fit.0 in
     let f : FineInstruction is i =
-    record {
-      flag = omega arith;
-      earlier = omega arith;
-      width = omega arith;
-      some = omega arith;
-      near = omega arith;
-      instructions = omega arith;
-      counters = omega arith;
-      delays = omega arith;
-    } in
+    record { fits = a.fit.0; instructions = omega arith; counters = omega arith; delays = omega arith } in
     let less : CodeAhead (is ++ i ∷ []) js =
     record {
       fit = rw length-append a.fit.1;

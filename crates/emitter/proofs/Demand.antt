@@ -9,6 +9,7 @@ use native.Mathlib.Omega.{arith}
 use borrow.Author.Tests.{le-ltb, ne_eqb}
 use lib.ListN.{length, get_or, take, drop, length-append, length-drop, get_or-append}
 use lib.Seq.{take_at, drop_at}
+use Rattle.std.proofs.Common.{Ok}
 use Rattle.ground.specs.Buffers.{AllBytes, byte_of, byte_values}
 use Rattle.ground.specs.Frames.{Clip}
 use Rattle.reading.specs.InTurn.{items, in_turn, read_all}
@@ -27,11 +28,9 @@ use Rattle.sequencer.specs.Bits.{output}
 use Rattle.code.specs.Code.{Code}
 use Rattle.code.specs.Loading.{read_code, code_of}
 use Rattle.sequencer.specs.Running.{verdicts, bad_clip, ran_of, buffer_after}
-use Rattle.sequencer.specs.declared.run.Ran.{Ran}
 use Rattle.emitter.specs.Demand.{RunSays, Verdicts, Meets, DemandThree}
 use Rattle.emitter.specs.Emit.{EmitSays}
 use Rattle.emitter.specs.Translation.{code_for, code_bytes}
-use Rattle.emitter.specs.declared.emit.Emitted.{Emitted}
 use Rattle.emitter.proofs.Accepted.{code_accepted}
 use Rattle.emitter.proofs.Answered.{has_room}
 use Rattle.emitter.proofs.Wires.{output_holds}
@@ -48,14 +47,14 @@ run_says κs a r x p = p
 
 module _ (f : Formula) (code : Code) (says : output code ≡ holds f) (clip before : List ℕ) (room : length clip ≤ length before) where
   -- the byte of a frame is what the rule says of the clip from it
-  says_at : (i : ℕ) (b : Bool) → i < length clip → holds f (drop i clip) ≡ b → get_or (buffer_after Ran.Done code clip before) i 0 ≡ byte_of b
+  says_at : (i : ℕ) (b : Bool) → i < length clip → holds f (drop i clip) ≡ b → get_or (buffer_after (Ok tt) code clip before) i 0 ≡ byte_of b
   says_at i b h e =
       get_or-append (verdicts code clip) _ 0 i (omega (arith, verdicts_length code clip))
       ∙ verdict_at code clip i h
       ∙ ap (λ (w : Clip → Bool). byte_of (w (drop i clip))) says
       ∙ ap byte_of e
 
-  all_verdicts : Verdicts f clip before (buffer_after Ran.Done code clip before)
+  all_verdicts : Verdicts f clip before (buffer_after (Ok tt) code clip before)
   all_verdicts =
       let l = verdicts_length code clip in
       record {
@@ -72,9 +71,9 @@ read_meets f code bytes read says =
     record {
       loads = (length code, rw read);
       runs = λ clip before some most room answer after p.
-          let runs : ran_of (read_code bytes) clip before ≡ Ran.Done =
+          let runs : ran_of (read_code bytes) clip before ≡ Ok tt =
           rw (read, ne_eqb (length clip) 0 (omega arith), le-ltb limits.frames (length clip) most, long_enough before clip room) in
-          let done : answer ≡ Ran.Done = p.0 ∙ runs in
+          let done : answer ≡ Ok tt = p.0 ∙ runs in
           (done, rw (rw (done, read) at p.1) (all_verdicts f code says clip before room));
     }
 
@@ -82,7 +81,7 @@ read_meets f code bytes read says =
 pub demand_three : DemandThree
 demand_three rule before is f small read room answer after p =
     let r = accepted_rule rule is f small read in
-    let answered : answer ≡ Emitted.Length (length (code_bytes f)) =
+    let answered : answer ≡ Ok (length (code_bytes f)) =
     p.0 ∙ rw read (has_room is f before room) in
     let own : take (length (code_bytes f)) after ≡ code_bytes f =
     ap (take (length (code_bytes f))) (rw (answered, read) at p.1) ∙ take_at (code_bytes f) _ (length (code_bytes f)) refl in

@@ -2,9 +2,8 @@
 pub mod Sizes
 pub mod Accepted
 pub mod Wires
-pub mod Behind
+pub mod Writing
 pub mod Waiting
-pub mod InOrder
 pub mod Answered
 pub mod Preparing
 pub mod Demand

@@ -14,7 +14,7 @@ use Rattle.rules.proofs.Stack.{timed_append, lower_append}
 use Rattle.code.specs.Code.{Code}
 use Rattle.code.specs.Loading.{reaches_in, distance_in}
 use Rattle.code.proofs.Counting.{reaches_append, distance_append}
-use Rattle.emitter.specs.Inner.Emission.{stack_code}
+use Rattle.emitter.specs.Inner.Emission.{stack_code, most_own}
 use Rattle.emitter.specs.Translation.{later_by, timed, item_code, behind, translate}
 
 -- the operands' bits stand earlier, if the item has any
@@ -23,7 +23,8 @@ Earlier item left right n = 1 ≤ (row_of_item item).operands → (left < n) × 
 
 -- The instructions of an item
 pub item_size : (n : ℕ) (i : Item) (left right : ℕ) → let own = item_code n i left right in
-    (1 ≤ length own) × (length own ≤ 3 + 2 * (row_of_item i).timed) × (reaches_in own ≡ (row_of_item i).timed) × (distance_in own ≡ (row_of_item i).lower)
+    (1 ≤ length own) × (length own ≤ 3 + 2 * (row_of_item i).timed) × (length own ≤ most_own) × (reaches_in own ≡ (row_of_item i).timed)
+    × (distance_in own ≡ (row_of_item i).lower)
 unfolding item_code timed later_by reaches_in distance_in
 item_size n Item.True left right = omega arith
 item_size n Item.False left right = omega arith
@@ -92,8 +93,3 @@ pub stack_length : (st : List Formula) → length (stack_code st) ≤ 3 * length
 unfolding stack_code postfixes timed_in
 stack_length [] = omega arith
 stack_length (f ∷ st) = let g = grown (stack_code st) f in simp (length-append, timed_append) (omega (arith, stack_length st))
-
-pub stack_reaches : (st : List Formula) → reaches_in (stack_code st) ≡ timed_in (postfixes st)
-unfolding stack_code postfixes timed_in reaches_in
-stack_reaches [] = omega arith
-stack_reaches (f ∷ st) = let g = grown (stack_code st) f in rw timed_append (omega (arith, stack_reaches st))

@@ -23,7 +23,8 @@ use Rattle.rules.specs.Meaning.{within, reaches, holds}
 use Rattle.rules.specs.declared.item.Item.{Item}
 use Rattle.rules.proofs.Agreement.{Found, found}
 use Rattle.sequencer.specs.Bits.{Wire, Counter, none, count, is_on, counter, later, wire, wire_of, wires_from, output, Says}
-use Rattle.code.specs.Code.{One, Flag, Nand, Reach, Later, Code}
+use Rattle.code.specs.declared.instruction.Instruction.TheVariants.{One, Flag, Nand, Reach, Later}
+use Rattle.code.specs.Code.{Code}
 use Rattle.sequencer.proofs.Counters.{counter_says, later_ago, later_none}
 use Rattle.sequencer.proofs.Wires.{wires_append, wires_length, wires_old}
 use Rattle.emitter.proofs.Sizes.{Earlier, grown}

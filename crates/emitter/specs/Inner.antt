@@ -1,4 +1,2 @@
 -- What only inner functions and proofs cite: a reader of the public statements needs none of it.
-pub mod Write
 pub mod Emission
-pub mod Count

@@ -2,20 +2,19 @@
 -- `02 00 01 04 01 00 02 05 02 02`" and "* `12 00 12 01 30 01 03` over clip `00 01 02` gives `01 01 00`"; each item of
 -- its table of emitted code, with a = 0 and with a > 0; and refusals of the rule and 16.
 use Rattle.std.specs.Prelude.{◌≡◌, List, [], ◌∷◌, ◌++◌, ℕ, length, replicate}
+use Rattle.std.specs.Prelude.{Result, Ok, Err}
 use Rattle.ground.specs.Frames.{Clip}
 use Rattle.ground.specs.declared.refusal.Refusal.{Refusal}
 use Rattle.rules.specs.Loading.{read_rule}
 use Rattle.code.specs.Loading.{read_code, code_of}
 use Rattle.sequencer.specs.Running.{ran_of, buffer_after}
-use Rattle.sequencer.specs.declared.run.Ran.{Ran}
 use Rattle.emitter.specs.Emit.{bytes_for, emitted_of, out_after}
-use Rattle.emitter.specs.declared.emit.Emitted.{Emitted}
 
 -- A row: a rule and its code; a rule, a buffer, the answer and what the buffer then holds; or a rule, a clip and what a
 -- run of its code writes for it
 pub data Sample : Type 0 where
   emits : List ℕ → List ℕ → Sample
-  answers : List ℕ → List ℕ → Emitted → List ℕ → Sample
+  answers : List ℕ → List ℕ → Result ℕ Refusal → List ℕ → Sample
   each_frame : List ℕ → Clip → List ℕ → Sample
 
 -- So many bytes ff, a buffer before it is written
@@ -30,7 +29,7 @@ EmittedRight (answers rule out answer after) =
 EmittedRight (each_frame rule clip verdicts) =
     let read = read_code (bytes_for (read_rule rule)) in
     let out = untouched (length clip) in
-    (ran_of read clip out ≡ Ran.Done) × (buffer_after Ran.Done (code_of read) clip out ≡ verdicts)
+    (ran_of read clip out ≡ Ok tt) × (buffer_after (Ok tt) (code_of read) clip out ≡ verdicts)
 
 -- The rule of document 01's first sample
 abbrev eventually : List ℕ
@@ -76,8 +75,8 @@ samples =
     (0x02 ∷ 0x00 ∷ 0x01 ∷ 0x03 ∷ 0x00 ∷ 0x00 ∷ 0x04 ∷ 0x01 ∷ 0x02 ∷ 0x04 ∷ 0x03 ∷ 0x03 ∷ 0x03 ∷ [])
     ∷ emits (0x12 ∷ 0x00 ∷ 0x33 ∷ 0x02 ∷ 0x04 ∷ [])
     (0x02 ∷ 0x00 ∷ 0x01 ∷ 0x03 ∷ 0x00 ∷ 0x00 ∷ 0x04 ∷ 0x01 ∷ 0x02 ∷ 0x02 ∷ 0x05 ∷ 0x03 ∷ 0x02 ∷ 0x03 ∷ 0x04 ∷ 0x04 ∷ [])
-    ∷ answers eventually (untouched 11) (Emitted.Length 10) (eventually_code ++ untouched 1)
-    ∷ answers eventually (untouched 9) (Emitted.Refused Refusal.ShortOutput) (untouched 9)
-    ∷ answers (0x12 ∷ 0x08 ∷ []) [] (Emitted.Refused (Refusal.FlagTooLarge 0)) []
-    ∷ answers [] [] (Emitted.Refused Refusal.Empty) []
+    ∷ answers eventually (untouched 11) (Ok 10) (eventually_code ++ untouched 1)
+    ∷ answers eventually (untouched 9) (Err Refusal.ShortOutput) (untouched 9)
+    ∷ answers (0x12 ∷ 0x08 ∷ []) [] (Err (Refusal.FlagTooLarge 0)) []
+    ∷ answers [] [] (Err Refusal.Empty) []
     ∷ []

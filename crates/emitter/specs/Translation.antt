@@ -7,7 +7,9 @@ use Rattle.std.specs.Prelude.{List, [], ◌∷◌, ◌++◌, ℕ, zero, suc, ◌
 use Rattle.reading.specs.InTurn.{bytes_of_all}
 use Rattle.rules.specs.Formula.{Formula}
 use Rattle.rules.specs.declared.item.Item.{Item}
-use Rattle.code.specs.Code.{Instruction, One, Flag, Nand, Reach, Later, Code, bytes_of_instruction}
+use Rattle.code.specs.declared.instruction.Instruction.{Instruction}
+use Rattle.code.specs.declared.instruction.Instruction.TheVariants.{One, Flag, Nand, Reach, Later}
+use Rattle.code.specs.Code.{Code, bytes_of_instruction}
 
 -- N: NAND of a bit with itself
 abbrev pub N : ℕ → Instruction

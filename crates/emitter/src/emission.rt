@@ -1,68 +1,170 @@
-// Emitting a rule item by item: the instructions of each, behind those of the items before it.
-ghost use Rattle.std.specs.Prelude.{◌≡◌, ◌≤◌};
+// Translating a rule item by item: the instructions of each, behind those of the items before it.
+ghost use Rattle.std.specs.Prelude.{◌≡◌, [], ◌∷◌, ◌+◌, ◌-◌, ◌≤◌, ◌<◌};
 ghost use Rattle.ground.specs.Limits.{limits};
-ghost use Rattle.emitter.specs.Inner.Emission.{from_top, CanEmitNext, EmittedNext, CanEmit, EmittedItems};
+ghost use Rattle.rules.specs.Items.{row_of_item};
+ghost use Rattle.code.specs.Loading.{program_with};
+ghost use Rattle.emitter.specs.Translation.{N, timed, item_code};
+ghost use Rattle.emitter.specs.Inner.Emission.{nothing_emitted, pushed, with_code, most_own, from_top, next_of};
+ghost use Rattle.emitter.specs.Inner.Emission.{items_code};
+ghost use Rattle.emitter.specs.Inner.Emission.{CanAdd, CanTranslate};
 
-use crate::item::emit_item;
-use crate::write::CodeEnd;
-use ground::limits::MOST_ITEMS;
-use rules::item::{Item, item_of, row_of};
-use rules::load::Rule;
+use code::instruction::Instruction;
+use code::load::Program;
+use ground::limits::{MOST_INSTRUCTIONS, MOST_ITEMS};
+use rules::item::{Item, row_of};
 
-// Where emitting stands: the end of the code so far, and the numbers of the bits of the values that wait for an
-// operator.
+// The code so far, and the numbers of the bits of the values that wait for an operator.
 #[derive(Clone, Copy)]
-pub(crate) struct Emission {
-    pub end: CodeEnd,
-    pub bits: [u16; MOST_ITEMS],
-    pub depth: usize,
+struct Emission {
+    program: Program,
+    bits: [u16; MOST_ITEMS],
+    depth: usize,
 }
 
-// The bit that stands so far below the top of a stack; 0 if there are not so many.
-fn from_top(bits: [u16; MOST_ITEMS], depth: usize, below: usize) -> u16
-    requires { (depth ≤ limits.items) × (1 ≤ below) }
-    ensures { result ≡ from_top bits depth below }
+// N: NAND of a bit with itself.
+fn inverse(bit: u16) -> Instruction
+    ensures { result ≡ N bit }
 {
-    if depth < below {
-        return 0;
-    }
-    bits[depth - below]
+    Instruction::Nand(bit, bit)
 }
 
-// Emits one item more, whose operands are the last values.
-fn emit_next(out: &mut [u8], emission: Emission, item: Item) -> Emission
-    requires { CanEmitNext out.old emission item }
-    ensures { EmittedNext out.old emission item out.new result }
-{
-    let mut bits = emission.bits;
-    let depth = emission.depth;
-    let left = from_top(bits, depth, 2);
-    let right = from_top(bits, depth, 1);
-    let end = emit_item(out, emission.end, item, left, right);
-    let bottom = depth - row_of(item).operands;
-    bits[bottom] = end.count - 1;
-    Emission {
-        end,
-        bits,
-        depth: bottom + 1,
+impl Emission {
+    // No instruction, and no value.
+    fn new() -> Emission
+        ensures { result ≡ nothing_emitted }
+    {
+        Emission {
+            program: Program {
+                instructions: [Instruction::One; MOST_INSTRUCTIONS],
+                count: 0,
+            },
+            bits: [0; MOST_ITEMS],
+            depth: 0,
+        }
+    }
+
+    // The number of the next instruction, which always fits.
+    fn number(&self) -> u16
+        requires { self.now.program.count ≤ limits.instructions }
+        ensures { result ≡ self.now.program.count }
+    {
+        self.program.count as u16
+    }
+
+    // One instruction more.
+    fn push(&mut self, instruction: Instruction)
+        requires { self.old.program.count < limits.instructions }
+        ensures own { self.new ≡ pushed self.old instruction }
+        ensures counted { self.new.program.count ≡ self.old.program.count + 1 }
+    {
+        self.program.instructions[self.program.count] = instruction;
+        self.program.count += 1;
+    }
+
+    // N of the last bit.
+    fn invert(&mut self)
+        requires { (1 ≤ self.old.program.count) × (self.old.program.count < limits.instructions) }
+        ensures own { self.new ≡ pushed self.old (N (self.old.program.count - 1)) }
+        ensures counted { self.new.program.count ≡ self.old.program.count + 1 }
+    {
+        self.push(inverse(self.number() - 1));
+    }
+
+    // REACH of two bits b−a, and LATER a of it, which is left out when a = 0.
+    #[tactic(auto, unfolding(crate::specs::Translation::timed, crate::specs::Translation::later_by))]
+    fn push_timed(&mut self, i: u16, j: u16, a: u16, b: u16)
+        requires { (a ≤ b) × (self.old.program.count + 2 ≤ limits.instructions) }
+        ensures own { self.new ≡ with_code self.old (timed self.old.program.count i j a b) }
+        ensures some { self.old.program.count < self.new.program.count }
+        ensures few { self.new.program.count ≤ self.old.program.count + 2 }
+    {
+        let number = self.number();
+        self.push(Instruction::Reach(i, j, b - a));
+        if a != 0 {
+            self.push(Instruction::Later(number, a));
+        }
+    }
+
+    // The instructions of an item, by the numbers of its operands' bits: document 01's table of emitted code. A lone
+    // operand is the right one.
+    #[tactic(auto, using(crate::proofs::Waiting::with_n), unfolding(crate::specs::Translation::item_code))]
+    fn push_item(&mut self, item: Item, left: u16, right: u16)
+        requires window { (row_of_item item).lower ≤ (row_of_item item).upper }
+        requires room { self.old.program.count + most_own ≤ limits.instructions }
+        ensures own { self.new ≡ with_code self.old (item_code self.old.program.count item left right) }
+        ensures some { self.old.program.count < self.new.program.count }
+        ensures few { self.new.program.count ≤ self.old.program.count + most_own }
+    {
+        let n = self.number();
+        match item {
+            Item::True => self.push(Instruction::One),
+            Item::Flag(k) => self.push(Instruction::Flag(k)),
+            Item::False => {
+                self.push(Instruction::One);
+                self.invert();
+            }
+            Item::Not => self.push(inverse(right)),
+            Item::And => {
+                self.push(Instruction::Nand(left, right));
+                self.invert();
+            }
+            Item::Or => {
+                self.push(inverse(left));
+                self.push(inverse(right));
+                self.push(Instruction::Nand(n, n + 1));
+            }
+            Item::Until(a, b) => self.push_timed(left, right, a, b),
+            Item::Release(a, b) => {
+                self.push(inverse(left));
+                self.push(inverse(right));
+                self.push_timed(n, n + 1, a, b);
+                self.invert();
+            }
+            Item::Eventually(a, b) => {
+                self.push(Instruction::One);
+                self.push_timed(n, right, a, b);
+            }
+            Item::Globally(a, b) => {
+                self.push(Instruction::One);
+                self.push(inverse(right));
+                self.push_timed(n, n + 1, a, b);
+                self.invert();
+            }
+        }
+    }
+
+    // The bit of the value that stands so far below the top; 0 if there are not so many.
+    fn bit(&self, below: usize) -> u16
+        requires { (self.now.depth ≤ limits.items) × (1 ≤ below) }
+        ensures { result ≡ from_top self.now.bits self.now.depth below }
+    {
+        match self.depth.checked_sub(below) {
+            Some(place) => self.bits[place],
+            None => 0,
+        }
+    }
+
+    // One item more, whose operands are the last values: its own bit, the last one, takes their place.
+    #[tactic(auto, using(crate::proofs::Waiting::depth_stays))]
+    fn add(&mut self, item: Item)
+        requires { CanAdd self.old item }
+        ensures { self.new ≡ next_of self.old item }
+    {
+        self.push_item(item, self.bit(2), self.bit(1));
+        let bottom = self.depth - row_of(item).operands;
+        self.bits[bottom] = self.number() - 1;
+        self.depth = bottom + 1;
     }
 }
 
-// Emits the items of a rule in turn, from the buffer's first byte on, and answers the length of the code.
-pub(crate) fn emit_items(rule: Rule, items: usize, out: &mut [u8]) -> usize
-    requires { CanEmit rule items out.old }
-    ensures { EmittedItems rule items out.old result out.new }
+// The code of items, each of which has its operands before it.
+pub(crate) fn translate(items: &[Item]) -> Program
+    requires { CanTranslate items.now }
+    ensures { result ≡ program_with (items_code items.now) }
 {
-    let mut emission = Emission {
-        end: CodeEnd { at: 0, count: 0 },
-        bits: [0; MOST_ITEMS],
-        depth: 0,
-    };
-    let mut k = 0;
-    while k < items {
-        let item = item_of(rule.codes[k], rule.flags[k], rule.lowers[k], rule.uppers[k]);
-        emission = emit_next(&mut *out, emission, item);
-        k += 1;
+    let mut emission = Emission::new();
+    for item in items {
+        emission.add(*item);
     }
-    emission.end.at
+    emission.program
 }

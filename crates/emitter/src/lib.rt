@@ -3,6 +3,5 @@
 
 mod emission;
 pub mod emit;
-mod item;
 pub mod prepare;
 mod write;

@@ -1,94 +1,52 @@
-// Writing code into a buffer, instruction by instruction, each behind the last.
-ghost use Rattle.std.specs.Prelude.{[], ◌∷◌, ◌-◌, ◌≤◌};
-ghost use Rattle.code.specs.Code.{One, Flag, Nand, Reach, Later};
-ghost use Rattle.emitter.specs.Translation.{N, timed};
-ghost use Rattle.emitter.specs.Inner.Write.{CodeRoom, CodeWrote};
+// Code as bytes in a buffer: each instruction's behind those of the instruction before it, and of each its numbers one
+// behind the other. The place goes from call to call as a number, as `write_number` has it.
+ghost use Rattle.std.specs.Prelude.{◌≡◌, ◌+◌, ◌≤◌, length};
+ghost use Rattle.ground.specs.Buffers.{over, written, place_after};
+ghost use Rattle.reading.specs.InTurn.{bytes_of_all};
+ghost use Rattle.reading.specs.Numbers.{number_bytes};
+ghost use Rattle.code.specs.Code.{bytes_of_instruction};
+ghost use Rattle.emitter.specs.Translation.{bytes_of_code};
 
+use code::instruction::Instruction;
 use reading::number::write_number;
 
-// Where code ends: how many bytes and how many instructions it has.
-#[derive(Clone, Copy)]
-pub(crate) struct CodeEnd {
-    pub at: usize,
-    pub count: u16,
-}
-
-// ONE.
-pub(crate) fn one(out: &mut [u8], end: CodeEnd) -> CodeEnd
-    requires { CodeRoom out.old end (One ∷ []) }
-    ensures { CodeWrote out.old end (One ∷ []) out.new result }
+// Writes numbers from a place on, where there is room, and answers the place behind them.
+fn write_numbers(out: &mut [u8], mut at: usize, numbers: &[u16]) -> usize
+    requires { at + length (bytes_of_all number_bytes numbers.now) ≤ length out.old }
+    ensures buffer { out.new ≡ written out.old at (bytes_of_all number_bytes numbers.now) }
+    ensures place { result ≡ place_after out.old at (bytes_of_all number_bytes numbers.now) }
 {
-    let at = write_number(&mut *out, end.at, 0x01);
-    let count = end.count + 1;
-    CodeEnd { at, count }
-}
-
-// FLAG k.
-pub(crate) fn flag(out: &mut [u8], end: CodeEnd, k: u16) -> CodeEnd
-    requires { CodeRoom out.old end (Flag k ∷ []) }
-    ensures { CodeWrote out.old end (Flag k ∷ []) out.new result }
-{
-    let code = write_number(&mut *out, end.at, 0x02);
-    let at = write_number(&mut *out, code, k);
-    let count = end.count + 1;
-    CodeEnd { at, count }
-}
-
-// NAND i j.
-pub(crate) fn nand(out: &mut [u8], end: CodeEnd, i: u16, j: u16) -> CodeEnd
-    requires { CodeRoom out.old end (Nand i j ∷ []) }
-    ensures { CodeWrote out.old end (Nand i j ∷ []) out.new result }
-{
-    let code = write_number(&mut *out, end.at, 0x03);
-    let first = write_number(&mut *out, code, i);
-    let at = write_number(&mut *out, first, j);
-    let count = end.count + 1;
-    CodeEnd { at, count }
-}
-
-// REACH i j w.
-fn reach(out: &mut [u8], end: CodeEnd, i: u16, j: u16, w: u16) -> CodeEnd
-    requires { CodeRoom out.old end (Reach i j w ∷ []) }
-    ensures { CodeWrote out.old end (Reach i j w ∷ []) out.new result }
-{
-    let code = write_number(&mut *out, end.at, 0x04);
-    let first = write_number(&mut *out, code, i);
-    let second = write_number(&mut *out, first, j);
-    let at = write_number(&mut *out, second, w);
-    let count = end.count + 1;
-    CodeEnd { at, count }
-}
-
-// LATER i d.
-fn later(out: &mut [u8], end: CodeEnd, i: u16, d: u16) -> CodeEnd
-    requires { CodeRoom out.old end (Later i d ∷ []) }
-    ensures { CodeWrote out.old end (Later i d ∷ []) out.new result }
-{
-    let code = write_number(&mut *out, end.at, 0x05);
-    let first = write_number(&mut *out, code, i);
-    let at = write_number(&mut *out, first, d);
-    let count = end.count + 1;
-    CodeEnd { at, count }
-}
-
-// N of the last bit.
-pub(crate) fn invert(out: &mut [u8], end: CodeEnd) -> CodeEnd
-    requires { (1 ≤ end.count) × CodeRoom out.old end (N (end.count - 1) ∷ []) }
-    ensures { CodeWrote out.old end (N (end.count - 1) ∷ []) out.new result }
-{
-    let last = end.count - 1;
-    nand(out, end, last, last)
-}
-
-// REACH of two bits b−a, and LATER a, which is left out when a = 0.
-pub(crate) fn timed(out: &mut [u8], end: CodeEnd, i: u16, j: u16, a: u16, b: u16) -> CodeEnd
-    requires { (a ≤ b) × CodeRoom out.old end (timed end.count i j a b) }
-    ensures { CodeWrote out.old end (timed end.count i j a b) out.new result }
-{
-    let number = end.count;
-    let reached = reach(&mut *out, end, i, j, b - a);
-    if a == 0 {
-        return reached;
+    for number in numbers {
+        at = write_number(out, at, *number);
     }
-    later(out, reached, number, a)
+    at
+}
+
+// Writes an instruction from a place on, where there is room, and answers the place behind it.
+#[tactic(auto, using(crate::proofs::Writing::instruction_numbers))]
+fn write_instruction(out: &mut [u8], at: usize, instruction: Instruction) -> usize
+    requires { at + length (bytes_of_instruction instruction) ≤ length out.old }
+    ensures buffer { out.new ≡ written out.old at (bytes_of_instruction instruction) }
+    ensures place { result ≡ place_after out.old at (bytes_of_instruction instruction) }
+{
+    match instruction {
+        Instruction::One => write_numbers(out, at, &[0x01]),
+        Instruction::Flag(k) => write_numbers(out, at, &[0x02, k]),
+        Instruction::Nand(i, j) => write_numbers(out, at, &[0x03, i, j]),
+        Instruction::Reach(i, j, w) => write_numbers(out, at, &[0x04, i, j, w]),
+        Instruction::Later(i, d) => write_numbers(out, at, &[0x05, i, d]),
+    }
+}
+
+// Writes code over the first bytes of a buffer that has room for it, and answers its length.
+pub(crate) fn write_code(out: &mut [u8], code: &[Instruction]) -> usize
+    requires { length (bytes_of_code code.now) ≤ length out.old }
+    ensures buffer { out.new ≡ over (bytes_of_code code.now) out.old }
+    ensures place { result ≡ length (bytes_of_code code.now) }
+{
+    let mut at = 0;
+    for instruction in code {
+        at = write_instruction(out, at, *instruction);
+    }
+    at
 }

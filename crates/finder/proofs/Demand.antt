@@ -6,6 +6,8 @@ use Prim.Native.Nat.{ℕ, ◌+◌, ◌≤◌}
 use native.Mathlib.Omega.{arith}
 use lib.ListN.{length, take, replicate}
 use lib.Seq.{take_at, drop_at}
+use Rattle.std.proofs.Common.{Result}
+use Rattle.ground.specs.declared.refusal.Refusal.{Refusal}
 use Rattle.ground.specs.Buffers.{over}
 use Rattle.ground.proofs.Buffers.{over_length}
 use Rattle.rules.specs.Formula.{Formula, horizon}
@@ -33,9 +35,9 @@ module _ (f : Formula) (table witness : List ℕ) (room : horizon f + 1 ≤ leng
   demanded (met c n) (first, count, within) =
       let own : take (length c) (over c witness) ≡ c = take_at c _ (length c) refl in
       record {
-        refuses = λ refusal e. absurd (let z : ◌≡◌ {A = ℕ} 0 1 = cc in omega arith);
-        no_room = (λ e. absurd (let z : ◌≡◌ {A = ℕ} 0 1 = cc in omega arith), λ more. absurd (not_within _ _ n _ count within more));
-        none = λ _. (λ e. absurd (let z : ◌≡◌ {A = ℕ} 0 1 = cc in omega arith), λ never. absurd (never c first.satisfying));
+        refuses = λ refusal e. cc e;
+        no_room = (λ e. cc e, λ more. absurd (not_within _ _ n _ count within more));
+        none = λ _. (λ e. cc e, λ never. absurd (never c first.satisfying));
         states = λ _. count;
         shown = λ _. record {
           first = rw own first;
@@ -43,16 +45,16 @@ module _ (f : Formula) (table witness : List ℕ) (room : horizon f + 1 ≤ leng
           rest = drop_at c _ (length c) refl;
           same = over_length c witness (omega (arith, first_short f c first));
         };
-        not_shown = λ e. absurd (let z : ◌≡◌ {A = ℕ} 0 1 = cc in omega arith);
+        not_shown = λ e. cc e;
         zero = refl;
       }
   demanded (none n) (never, count, within) =
       record {
-        refuses = λ refusal e. absurd (let z : ◌≡◌ {A = ℕ} 0 1 = cc in omega arith);
-        no_room = (λ e. absurd (let z : ◌≡◌ {A = ℕ} 0 1 = cc in omega arith), λ more. absurd (not_within _ _ n _ count within more));
+        refuses = λ refusal e. cc e;
+        no_room = (λ e. cc e, λ more. absurd (not_within _ _ n _ count within more));
         none = λ _. (λ _. never, λ _. refl);
         states = λ _. count;
-        shown = λ e. absurd (let z : ◌≡◌ {A = ℕ} 0 1 = cc in omega arith);
+        shown = λ e. cc e;
         not_shown = λ _. (refl, refl);
         zero = refl;
       }
@@ -62,12 +64,12 @@ module _ (f : Formula) (table witness : List ℕ) (room : horizon f + 1 ≤ leng
         no_room = (λ _. more, λ _. refl);
         none = λ other. absurd (other refl);
         states = λ other. absurd (other refl);
-        shown = λ e. absurd (let z : ◌≡◌ {A = ℕ} 0 1 = cc in omega arith);
+        shown = λ e. cc e;
         not_shown = λ _. (refl, refl);
         zero = refl;
       }
 
-  demanded_of : (answer : Answer) → Right (steps_over (code_for f)) (Holds f) (room_of table) answer → (r : Found) (table' witness' : List ℕ)
+  demanded_of : (answer : Answer) → Right (steps_over (code_for f)) (Holds f) (room_of table) answer → (r : Result Found Refusal) (table' witness' : List ℕ)
       → r ≡ found_of answer → table' ≡ replicate (length table) 0 → witness' ≡ witness_after answer witness → Demanded f table witness r table' witness'
   demanded_of answer right r table' witness' e zero left = rw (e, zero, left) (demanded answer right)
 

@@ -8,9 +8,11 @@ use native.Mathlib.Nat.{min-le_right}
 use native.Mathlib.Omega.{arith}
 use borrow.Author.Tests.{le-ltb}
 use lib.ListN.{length}
+use Rattle.std.proofs.Common.{Result, Ok, Err, IfSome}
 use Rattle.ground.specs.Buffers.{AllBytes}
 use Rattle.ground.specs.Limits.{limits, most_horizon, most_rule_bytes}
 use Rattle.ground.specs.Refusals.{place_of}
+use Rattle.ground.specs.declared.refusal.Refusal.{Refusal}
 use Rattle.rules.specs.Formula.{Formula, horizon}
 use Rattle.rules.specs.Loading.{Items, Reading, accepted, refused, read_rule}
 use Rattle.rules.specs.Meaning.{Holds}
@@ -26,10 +28,9 @@ use Rattle.finder.specs.declared.search.Found.{Found}
 use Rattle.finder.proofs.Answered.{first_short}
 
 -- An answer whose numbers are small
-abbrev pub Small : Found → Type 0
-Small (Found.Met length states) = (length ≤ most_horizon + 1) × (1 ≤ states) × (states ≤ limits.records)
-Small (Found.None states) = (1 ≤ states) × (states ≤ limits.records)
-Small (Found.Refused r) = place_of r ≤ most_rule_bytes
+abbrev pub Small : Result Found Refusal → Type 0
+Small (Ok found) = IfSome found.length (λ l. l ≤ most_horizon + 1) × (1 ≤ found.states) × (found.states ≤ limits.records)
+Small (Err r) = place_of r ≤ most_rule_bytes
 
 -- no table has more records
 room_small : (table : List ℕ) → room_of table ≤ limits.records
@@ -41,10 +42,10 @@ right_small : (f : Formula) (table : List ℕ) (a : Answer) → horizon f ≤ mo
     → Small (found_of a)
 right_small f table (met c n) near (first, counts, room) =
     (omega (arith, near, first_short f c first), fresh_counted _ _ n counts, omega (arith, room, room_small table))
-right_small f table (none n) near (never, counts, room) = (fresh_counted _ _ n counts, omega (arith, room, room_small table))
+right_small f table (none n) near (never, counts, room) = (tt, fresh_counted _ _ n counts, omega (arith, room, room_small table))
 right_small f table no_room near more = omega arith
 
-pub said_small : (rule table witness : List ℕ) (r : Found) (table' witness' : List ℕ) → AllBytes rule
+pub said_small : (rule table witness : List ℕ) (r : Result Found Refusal) (table' witness' : List ℕ) → AllBytes rule
     → SearchSays (read_rule rule) table witness r table' witness' → Small r
 said_small rule table witness r table' witness' small says = go (read_rule rule) refl says
   where

@@ -4,6 +4,7 @@ use mathlib.Core.Path.{◌≡◌, sym, ap, ◌∙◌}
 use mathlib.Core.Bool.{Bool, true, false}
 use mathlib.Core.List.{List}
 use Prim.Native.Nat.{ℕ}
+use Rattle.std.proofs.Common.{Result}
 use Rattle.ground.specs.declared.refusal.Refusal.{Refusal}
 use Rattle.rules.specs.Formula.{Formula}
 use Rattle.rules.specs.Loading.{Reading, accepted, refused, read_rule}
@@ -14,7 +15,7 @@ use Rattle.finder.specs.Search.{found_of, witness_after, Answers, Refuses, short
 use Rattle.finder.specs.declared.search.Found.{Found}
 use Rattle.finder.proofs.search.search.Reads as search
 
-module _ (table witness : List ℕ) (r s : Found) (t u v w : List ℕ) where
+module _ (table witness : List ℕ) (r s : Result Found Refusal) (t u v w : List ℕ) where
   refuses_one : (refusal : Refusal) → Refuses refusal table witness r t v → Refuses refusal table witness s u w → (r ≡ s) × (t ≡ u) × (v ≡ w)
   refuses_one refusal p q = (p.own_answer ∙ sym q.own_answer, p.own_table ∙ sym q.own_table, p.own_witness ∙ sym q.own_witness)
 

@@ -3,7 +3,8 @@
 -- of one or more frames satisfies the rule; before both comes "no room", exactly if the distinct register states, the
 -- fresh one included, reached by clips shorter than the shortest satisfying one (by all clips, if there is none)
 -- outnumber the table's records.
-use Rattle.std.specs.Prelude.{◌≡◌, true, false, List, ◌↔◌, ℕ, ◌+◌, ◌≤◌, length, take, drop, replicate}
+use Rattle.std.specs.Prelude.{◌≡◌, true, false, List, ◌↔◌, ℕ, ◌+◌, ◌≤◌, length, take, drop, replicate, Result}
+use Rattle.std.specs.Prelude.{Err}
 use Rattle.ground.specs.Frames.{Clip}
 use Rattle.ground.specs.declared.refusal.Refusal.{Refusal}
 use Rattle.rules.specs.Formula.{Formula, horizon}
@@ -29,11 +30,12 @@ pub record Shown (f : Formula) (l : ℕ) (before after : List ℕ) : Type 0 wher
   pub same : length after ≡ length before
 
 -- What is demanded of the answer for a rule, and of both buffers after it
-pub record Demanded (f : Formula) (table witness : List ℕ) (r : Found) (table' witness' : List ℕ) : Type 0 where
-  pub refuses : (refusal : Refusal) → r ≡ Found.Refused refusal → refusal ≡ Refusal.NoRoom
-  pub no_room : (r ≡ Found.Refused Refusal.NoRoom) ↔ Outnumber (steps_over (code_for f)) (Holds f) (room_of table)
-  pub none : (r ≡ Found.Refused Refusal.NoRoom → ⊥) → (is_met r ≡ false) ↔ ((c : Clip) → Satisfying (Holds f) c → ⊥)
-  pub states : (r ≡ Found.Refused Refusal.NoRoom → ⊥) → States f (states_of r)
+pub record Demanded (f : Formula) (table witness : List ℕ) (r : Result Found Refusal)
+    (table' witness' : List ℕ) : Type 0 where
+  pub refuses : (refusal : Refusal) → r ≡ Err refusal → refusal ≡ Refusal.NoRoom
+  pub no_room : (r ≡ Err Refusal.NoRoom) ↔ Outnumber (steps_over (code_for f)) (Holds f) (room_of table)
+  pub none : (r ≡ Err Refusal.NoRoom → ⊥) → (is_met r ≡ false) ↔ ((c : Clip) → Satisfying (Holds f) c → ⊥)
+  pub states : (r ≡ Err Refusal.NoRoom → ⊥) → States f (states_of r)
   pub shown : is_met r ≡ true → Shown f (length_of r) witness witness'
   pub not_shown : is_met r ≡ false → (length_of r ≡ 0) × (witness' ≡ witness)
   pub zero : table' ≡ replicate (length table) 0
@@ -44,5 +46,6 @@ abbrev pub DemandTwo : Type 0
 DemandTwo =
     (rule table witness : List ℕ) (is : Items) (f : Formula) → read_rule rule ≡ accepted is f
     → horizon f + 1 ≤ length witness
-    → (r : Found) (table' witness' : List ℕ) → SearchSays (read_rule rule) table witness r table' witness'
+    → (r : Result Found Refusal) (table' witness' : List ℕ)
+    → SearchSays (read_rule rule) table witness r table' witness'
     → Demanded f table witness r table' witness'

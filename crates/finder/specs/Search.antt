@@ -5,6 +5,7 @@
 -- refusal 15. "None exists" leaves the witness buffer unchanged." A state is "the value of all registers of the emitted
 -- code", and a clip reaches the one "that its frames, last to first, lead to from fresh registers":
 -- `steps_over (code_for f)`.
+use Rattle.std.specs.Prelude.{Some, None, is_some, unwrap_or, Result, Ok, Err}
 use Rattle.std.specs.Prelude.{◌≡◌, Bool, true, false, List, ℕ, ◌+◌, ltb, length, replicate}
 use Rattle.ground.specs.Buffers.{over}
 use Rattle.ground.specs.Frames.{Clip}
@@ -20,28 +21,25 @@ use Rattle.table.specs.Room.{room_of}
 use Rattle.finder.specs.declared.search.Found.{Found}
 
 -- An answer as `search` gives it: length and states, states, or refusal 15
-abbrev pub found_of : Answer → Found
-found_of (met c n) = Found.Met (length c) n
-found_of (none n) = Found.None n
-found_of no_room = Found.Refused Refusal.NoRoom
+abbrev pub found_of : Answer → Result Found Refusal
+found_of (met c n) = Ok (record { length = Some (length c); states = n })
+found_of (none n) = Ok (record { length = None; states = n })
+found_of no_room = Err Refusal.NoRoom
 
 -- Met or not
-abbrev pub is_met : Found → Bool
-is_met (Found.Met l n) = true
-is_met (Found.None n) = false
-is_met (Found.Refused r) = false
+abbrev pub is_met : Result Found Refusal → Bool
+is_met (Ok found) = is_some found.length
+is_met (Err r) = false
 
 -- The length, 0 if not met
-abbrev pub length_of : Found → ℕ
-length_of (Found.Met l n) = l
-length_of (Found.None n) = 0
-length_of (Found.Refused r) = 0
+abbrev pub length_of : Result Found Refusal → ℕ
+length_of (Ok found) = unwrap_or found.length 0
+length_of (Err r) = 0
 
 -- The number of states
-abbrev pub states_of : Found → ℕ
-states_of (Found.Met l n) = n
-states_of (Found.None n) = n
-states_of (Found.Refused r) = 0
+abbrev pub states_of : Result Found Refusal → ℕ
+states_of (Ok found) = found.states
+states_of (Err r) = 0
 
 -- The witness buffer after an answer: a clip over its first bytes, or as it was
 abbrev pub witness_after : Answer → List ℕ → List ℕ
@@ -50,7 +48,7 @@ witness_after (none n) witness = witness
 witness_after no_room witness = witness
 
 -- A right answer, by the states of some code and the clips that satisfy, is given; the table is all zero
-pub record Answers (code : Code) (Meets : Clip → Type 0) (table witness : List ℕ) (r : Found)
+pub record Answers (code : Code) (Meets : Clip → Type 0) (table witness : List ℕ) (r : Result Found Refusal)
     (table' witness' : List ℕ) : Type 0 where
   pub answer : Answer
   pub right : Right (steps_over code) Meets (room_of table) answer
@@ -59,8 +57,9 @@ pub record Answers (code : Code) (Meets : Clip → Type 0) (table witness : List
   pub own_witness : witness' ≡ witness_after answer witness
 
 -- A refusal that changes nothing
-pub record Refuses (refusal : Refusal) (table witness : List ℕ) (r : Found) (table' witness' : List ℕ) : Type 0 where
-  pub own_answer : r ≡ Found.Refused refusal
+pub record Refuses (refusal : Refusal) (table witness : List ℕ) (r : Result Found Refusal)
+    (table' witness' : List ℕ) : Type 0 where
+  pub own_answer : r ≡ Err refusal
   pub own_table : table' ≡ table
   pub own_witness : witness' ≡ witness
 
@@ -69,12 +68,12 @@ abbrev pub short_witness : Formula → List ℕ → Bool
 short_witness f witness = ltb (length witness) (horizon f + 1)
 
 -- What the search says of an accepted rule: 14 if the witness buffer is short, else a right answer
-abbrev pub RuleSays : Bool → Formula → List ℕ → List ℕ → Found → List ℕ → List ℕ → Type 0
+abbrev pub RuleSays : Bool → Formula → List ℕ → List ℕ → Result Found Refusal → List ℕ → List ℕ → Type 0
 RuleSays true f table witness r table' witness' = Refuses Refusal.ShortWitness table witness r table' witness'
 RuleSays false f table witness r table' witness' = Answers (code_for f) (Holds f) table witness r table' witness'
 
 -- What the search says: the rule's refusal, or what it says of the rule
-abbrev pub SearchSays : Reading → List ℕ → List ℕ → Found → List ℕ → List ℕ → Type 0
+abbrev pub SearchSays : Reading → List ℕ → List ℕ → Result Found Refusal → List ℕ → List ℕ → Type 0
 SearchSays (accepted is f) table witness r table' witness' =
     RuleSays (short_witness f witness) f table witness r table' witness'
 SearchSays (refused refusal) table witness r table' witness' = Refuses refusal table witness r table' witness'

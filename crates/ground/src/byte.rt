@@ -2,19 +2,16 @@
 ghost use Rattle.std.specs.Prelude.{◌≡◌, ◌<◌};
 ghost use Rattle.ground.specs.Buffers.{byte_of, byte_values};
 
-// A byte as a number.
+// A byte as a number, which is said to be below 256.
 pub fn wide(byte: u8) -> u16
     ensures { (result ≡ byte) × (result < byte_values) }
 {
-    byte as u16
+    u16::from(byte)
 }
 
-// A bit as a byte.
+// A bit as a byte, under the name that the definitions give it.
 pub fn byte_of(bit: bool) -> u8
     ensures { result ≡ byte_of bit }
 {
-    if bit {
-        return 1;
-    }
-    0
+    u8::from(bit)
 }

@@ -46,7 +46,7 @@ const MOST_EMITTED: usize = 3 * MOST_ITEMS + 2 * MOST_TIMED;
 pub const MOST_CODE: usize = 5 * MOST_EMITTED + 2 * MOST_TIMED;
 
 // All limits together.
-#[derive(Clone, Copy)]
+#[derive(Clone, Copy, Debug, PartialEq, Eq)]
 pub struct Limits {
     pub number: u16,
     pub flag: u16,
@@ -87,7 +87,7 @@ pub fn all() -> Limits
 }
 
 // The bounds together.
-#[derive(Clone, Copy)]
+#[derive(Clone, Copy, Debug, PartialEq, Eq)]
 pub struct Bounds {
     pub horizon: usize,
     pub rule: usize,

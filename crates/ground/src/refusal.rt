@@ -3,7 +3,7 @@ ghost use Rattle.std.specs.Prelude.{◌≡◌};
 ghost use Rattle.ground.specs.Refusals.{number_of, place_of};
 
 // A refusal. It holds its place where 01 names one; any other has place 0.
-#[derive(Clone, Copy)]
+#[derive(Clone, Copy, Debug, PartialEq, Eq)]
 pub enum Refusal {
     Empty,
     UnknownCode(usize),
@@ -23,7 +23,8 @@ pub enum Refusal {
     ShortOutput,
 }
 
-// Document 01's number for a refusal.
+// Document 01's number for a refusal. By this name and by no `From`: a refusal has two numbers, and its place is asked
+// for too.
 pub fn number(refusal: Refusal) -> u8
     ensures { result ≡ number_of refusal }
 {
@@ -52,21 +53,21 @@ pub fn place(refusal: Refusal) -> usize
     ensures { result ≡ place_of refusal }
 {
     match refusal {
-        Refusal::Empty => 0,
-        Refusal::UnknownCode(at) => at,
-        Refusal::CutShort(at) => at,
-        Refusal::NotShortest(at) => at,
-        Refusal::FlagTooLarge(at) => at,
-        Refusal::BadWindow(at) => at,
-        Refusal::TooFewOperands(at) => at,
-        Refusal::RuleTooLarge(at) => at,
-        Refusal::NotOneValue(at) => at,
-        Refusal::NotEarlier(at) => at,
-        Refusal::BadWidth(at) => at,
-        Refusal::CodeTooLarge(at) => at,
-        Refusal::BadClip => 0,
-        Refusal::ShortWitness => 0,
-        Refusal::NoRoom => 0,
-        Refusal::ShortOutput => 0,
+        Refusal::UnknownCode(at)
+        | Refusal::CutShort(at)
+        | Refusal::NotShortest(at)
+        | Refusal::FlagTooLarge(at)
+        | Refusal::BadWindow(at)
+        | Refusal::TooFewOperands(at)
+        | Refusal::RuleTooLarge(at)
+        | Refusal::NotOneValue(at)
+        | Refusal::NotEarlier(at)
+        | Refusal::BadWidth(at)
+        | Refusal::CodeTooLarge(at) => at,
+        Refusal::Empty
+        | Refusal::BadClip
+        | Refusal::ShortWitness
+        | Refusal::NoRoom
+        | Refusal::ShortOutput => 0,
     }
 }

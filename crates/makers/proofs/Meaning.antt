@@ -27,7 +27,7 @@ use Rattle.rules.proofs.Agreement.{agreement}
 use Rattle.rules.proofs.TooLarge.{read_or_large}
 use Rattle.makers.specs.Making.{negation, conjunction, disjunction, next_frame, or_else, room_made, new_made, one_made, two_made}
 use Rattle.makers.specs.Meaning.{Means}
-use Rattle.makers.specs.declared.make.Made.{Made}
+use Rattle.std.specs.Prelude.{Ok}
 use Rattle.makers.specs.declared.make.Which.{Which}
 use Rattle.makers.proofs.Making.{negation_bytes, conjunction_bytes, disjunction_bytes, next_bytes}
 
@@ -84,19 +84,19 @@ module _ (first second : List ℕ) (is js : Items) (f g : Formula) (small : AllB
   either_spell = two_spell Item.Or disjunction_bytes (omega arith)
 
 -- a maker that answers a length has read the new bytes as a rule
-new_read : (new out : List ℕ) (n : ℕ) → new_made new out ≡ Made.Length n
+new_read : (new out : List ℕ) (n : ℕ) → new_made new out ≡ Ok n
     → (n ≡ length new) × (is : Items) × (f : Formula) × (read_rule new ≡ accepted is f)
 new_read new out n e = go (read_rule new) refl e
   where
-    go : (read : Reading) → read_rule new ≡ read → or_else Which.New read (room_made new out) ≡ Made.Length n
+    go : (read : Reading) → read_rule new ≡ read → or_else Which.New read (room_made new out) ≡ Ok n
         → (n ≡ length new) × (is : Items) × (f : Formula) × (read_rule new ≡ accepted is f)
     go (accepted is f) q e =
-        let (fits, same) = else_taken (too_short out new) (λ d. let z : ◌≡◌ {A = ℕ} 0 1 = cc in omega arith) e in
+        let (fits, same) = else_taken (too_short out new) (λ d. cc) e in
         (cc, is, f, q)
-    go (refused r) q e = absurd (let z : ◌≡◌ {A = ℕ} 0 1 = cc in omega arith)
+    go (refused r) q e = cc
 
 -- and that rule is the formula whose items they spell: such bytes are read as it, or they are refused
-new_means : (h : Formula) (new out : List ℕ) (n : ℕ) → Spells new (postfix h) → new_made new out ≡ Made.Length n
+new_means : (h : Formula) (new out : List ℕ) (n : ℕ) → Spells new (postfix h) → new_made new out ≡ Ok n
     → (n ≡ length new) × Means new (Holds h) (horizon h)
 new_means h new out n s e =
     let (own, is, f, read) = new_read new out n e in
@@ -106,25 +106,25 @@ new_means h new out n s e =
       own,
       record { items = postfix h; formula = h; read = ap read_rule s.own ∙ q; holds = λ c x. x; held = λ c x. x; horizon = refl },
     ))
-    (λ q. absurd (let z : ◌≡◌ {A = ℕ} 0 1 = cc q.1 in omega arith))
+    (λ q. cc q.1)
     (read_or_large h s.ranges)
 
 -- The four makers
 
 module _ (rule out : List ℕ) (is : Items) (f : Formula) (n : ℕ) (small : AllBytes rule) (read : read_rule rule ≡ accepted is f) where
-  pub negate_means : one_made negation rule out ≡ Made.Length n
+  pub negate_means : one_made negation rule out ≡ Ok n
       → (n ≡ length (rule ++ negation)) × Means (rule ++ negation) (λ c. Holds f c → ⊥) (horizon f)
   unfolding Holds horizon
   negate_means e = new_means (Not f) (rule ++ negation) out n (negate_spells rule is f small read) (rw read at e)
 
-  pub next_means : one_made next_frame rule out ≡ Made.Length n
+  pub next_means : one_made next_frame rule out ≡ Ok n
       → (n ≡ length (rule ++ next_frame)) × Means (rule ++ next_frame) (Holds (Globally 1 1 f)) (1 + horizon f)
   unfolding horizon
   next_means e = new_means (Globally 1 1 f) (rule ++ next_frame) out n (next_spells rule is f small read) (rw read at e)
 
 module _ (first second out : List ℕ) (is js : Items) (f g : Formula) (n : ℕ) (small : AllBytes first) (bytes : AllBytes second)
     (read : read_rule first ≡ accepted is f) (also : read_rule second ≡ accepted js g) where
-  pub both_means : two_made conjunction first second out ≡ Made.Length n
+  pub both_means : two_made conjunction first second out ≡ Ok n
       → (n ≡ length (first ++ (second ++ conjunction)))
       × Means (first ++ (second ++ conjunction)) (λ c. Holds f c × Holds g c) (max (horizon f) (horizon g))
   unfolding Holds horizon
@@ -132,7 +132,7 @@ module _ (first second out : List ℕ) (is js : Items) (f g : Formula) (n : ℕ)
       let spelt = both_spell first second is js f g small bytes read also in
       new_means (And f g) (first ++ (second ++ conjunction)) out n spelt (rw (read, also) at e)
 
-  pub either_means : two_made disjunction first second out ≡ Made.Length n
+  pub either_means : two_made disjunction first second out ≡ Ok n
       → (n ≡ length (first ++ (second ++ disjunction)))
       × Means (first ++ (second ++ disjunction)) (λ c. Holds f c ⊎ Holds g c) (max (horizon f) (horizon g))
   unfolding Holds horizon

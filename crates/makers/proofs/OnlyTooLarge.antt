@@ -3,7 +3,6 @@ use mathlib.Core.Path.{◌≡◌, ap}
 use mathlib.Core.List.{List, ◌++◌}
 use mathlib.Core.Logic.{⊎_elim}
 use Prim.Native.Nat.{ℕ}
-use native.Mathlib.Omega.{arith}
 use Rattle.ground.specs.Buffers.{AllBytes}
 use Rattle.ground.specs.Refusals.{number_of}
 use Rattle.ground.specs.declared.refusal.Refusal.{Refusal}
@@ -18,7 +17,7 @@ new_refused : (h : Formula) (new : List ℕ) (r : Refusal) → Spells new (postf
 new_refused h new r s e =
     let own = rw s.own at e in
     ⊎_elim
-    (λ q. absurd (let z : ◌≡◌ {A = ℕ} 0 1 = cc in omega arith))
+    (λ q. cc)
     (λ q. let large : r ≡ Refusal.RuleTooLarge q.0 = cc q.1 in ap number_of large)
     (read_or_large h s.ranges)
 

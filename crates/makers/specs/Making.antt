@@ -1,13 +1,13 @@
 -- What the makers answer and write. Document 01: "Makers: negate appends 20; both and either append 21 or 22 after the
 -- first and then the second rule; next appends `33 01 01`", and "Makers: first rule, second rule, then the new bytes as
 -- a rule, then 16; the answer says which of the three was refused (for 16, the new bytes)".
-use Rattle.std.specs.Prelude.{◌≡◌, cond, List, [], ◌∷◌, ◌++◌, ℕ, ◌+◌, ◌*◌, length}
+use Rattle.std.specs.Prelude.{◌≡◌, cond, Result, Ok, Err, List, [], ◌∷◌, ◌++◌, ℕ, ◌+◌, ◌*◌, length}
 use Rattle.ground.specs.Buffers.{too_short, over}
 use Rattle.ground.specs.declared.refusal.Refusal.{Refusal}
 use Rattle.ground.specs.Limits.{most_rule_bytes}
 use Rattle.rules.specs.Loading.{Reading, accepted, refused, read_rule}
 use Rattle.makers.specs.declared.make.Which.{Which}
-use Rattle.makers.specs.declared.make.Made.{Made}
+use Rattle.makers.specs.declared.make.Refused.{Refused}
 
 -- What negate appends
 abbrev pub negation : List ℕ
@@ -39,14 +39,22 @@ which_of Which.First = 1
 which_of Which.Second = 2
 which_of Which.New = 3
 
+-- What a maker answers: the length of the new rule, or which of the three is refused, and how
+abbrev pub Made : Type 0
+Made = Result ℕ Refused
+
+-- One of the three is refused
+abbrev pub refused_as : {A : Type 0} → Which → Refusal → Result A Refused
+refused_as which r = Err (record { which = which; refusal = r })
+
 -- One of the three as a rule: its refusal, or what comes after it
-abbrev pub or_else : Which → Reading → Made → Made
+abbrev pub or_else : {A : Type 0} → Which → Reading → Result A Refused → Result A Refused
 or_else which (accepted is f) then = then
-or_else which (refused r) then = Made.Refused which r
+or_else which (refused r) then = refused_as which r
 
 -- The room for new bytes that are a rule: 16, or their length
 abbrev pub room_made : List ℕ → List ℕ → Made
-room_made new out = cond (too_short out new) (Made.Refused Which.New Refusal.ShortOutput) (Made.Length (length new))
+room_made new out = cond (too_short out new) (refused_as Which.New Refusal.ShortOutput) (Ok (length new))
 
 -- The new bytes: as a rule, then 16, then their length
 abbrev pub new_made : List ℕ → List ℕ → Made
@@ -64,8 +72,8 @@ two_made operator first second out =
 
 -- What a maker leaves in the output buffer, by its answer
 abbrev pub made_after : Made → List ℕ → List ℕ → List ℕ
-made_after (Made.Length n) new out = over new out
-made_after (Made.Refused which r) new out = out
+made_after (Ok n) new out = over new out
+made_after (Err e) new out = out
 
 -- What is said of an answer and of the buffer that it leaves
 pub record Makes (made : Made) (new out : List ℕ) (answer : Made) (out' : List ℕ) : Type 0 where

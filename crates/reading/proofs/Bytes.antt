@@ -1,6 +1,6 @@
 -- Bytes at a place and what is read there determine each other. The reader's tests find what stands there by its bytes; and where it reads something, the bytes
 -- that it has seen are those of some value, which is then the one that is read.
-use mathlib.Core.Path.{◌≡◌, refl, ap}
+use mathlib.Core.Path.{◌≡◌, refl, sym, ap, ◌∙◌}
 use mathlib.Core.Bool.{Bool, true, false}
 use mathlib.Core.Logic.{by_cases}
 use mathlib.Core.List.{List, [], ◌∷◌, ◌++◌, append_assoc, append-nil}
@@ -14,14 +14,15 @@ use lib.ListN.{length, get_or, take, drop, length-append, length-drop, length-ta
 use lib.Seq.{drop-drop, drop-append_seam, append_snoc, get_or-drop, take_at}
 use Rattle.ground.specs.Buffers.{AllBytes, byte_values}
 use Rattle.ground.specs.Limits.{limits}
-use Rattle.reading.specs.Numbers.{group, first_byte, second_byte, number_at, number_bytes}
-use Rattle.reading.specs.Items.{most_numbers, code_first, item_at, with_number, numbers_from, numbers_of, no_code, numbers_bytes, item_bytes}
+use Rattle.std.specs.Prelude.{None, Some, Result, Ok, Err}
+use Rattle.reading.specs.Numbers.{group, first_byte, second_byte, number_at, number_read, number_bytes}
+use Rattle.reading.specs.Items.{most_numbers, code_first, Standing, item_at, item_read}
+use Rattle.reading.specs.Items.{with_number, numbers_from, numbers_of, no_code, numbers_bytes, item_bytes}
 use Rattle.ground.specs.Padded.{padded}
 use Rattle.reading.specs.declared.number.Number.{Number}
-use Rattle.reading.specs.declared.number.Number.TheVariants.{Value, Short, Long}
+use Rattle.reading.specs.declared.number.Fault.{Fault}
 use Rattle.reading.specs.declared.item.Table.{Table}
 use Rattle.reading.specs.declared.item.Read.{Read}
-use Rattle.reading.specs.declared.item.Read.TheVariants.{Item}
 use Rattle.ground.proofs.Padded.{get_or-padded}
 
 -- at a place of some bytes stand these bytes, and `next` is the place behind them
@@ -34,13 +35,50 @@ pub record Stands (bytes : List ℕ) (at : ℕ) (own : List ℕ) (next : ℕ) : 
 never : {A : Type 0} → ◌≡◌ {A = ℕ} 1 0 → A
 never e = absurd (suc-ne-zero 0 e)
 
+-- what is read determines its parts
+value_in : Result Number Fault → ℕ
+value_in (Ok n) = n.value
+value_in (Err f) = 0
+
+next_in : Result Number Fault → ℕ
+next_in (Ok n) = n.next
+next_in (Err f) = 0
+
+same_number : {n next m behind : ℕ} → number_read n next ≡ number_read m behind → (n ≡ m) × (next ≡ behind)
+unfolding value_in next_in
+same_number e = (ap value_in e, ap next_in e)
+
+item_part : (Read → ℕ) → Standing → ℕ
+item_part f (Ok (Some r)) = f r
+item_part f (Ok None) = 0
+item_part f (Err r) = 0
+
+pub record SameItem (code i j k next code' i' j' k' next' : ℕ) : Type 0 where
+  pub codes : code ≡ code'
+  pub firsts : i ≡ i'
+  pub seconds : j ≡ j'
+  pub thirds : k ≡ k'
+  pub nexts : next ≡ next'
+
+pub same_item : {code i j k next code' i' j' k' next' : ℕ} → item_read code i j k next ≡ item_read code' i' j' k' next'
+    → SameItem code i j k next code' i' j' k' next'
+unfolding item_part
+same_item e =
+    record {
+      codes = ap (item_part (λ r. r.code)) e;
+      firsts = ap (item_part (λ r. r.first)) e;
+      seconds = ap (item_part (λ r. r.second)) e;
+      thirds = ap (item_part (λ r. r.third)) e;
+      nexts = ap (item_part (λ r. r.next)) e;
+    }
+
 -- bytes that begin with those of a number
 abbrev Begins : List ℕ → Type 0
 Begins s = (m : ℕ) × (rest : List ℕ) × (m ≤ limits.number) × (s ≡ number_bytes m ++ rest) × (0 < length s)
 
 -- where a number is read, the bytes begin with those of one
 module _ (at : ℕ) {n next : ℕ} where
-  begins_two : (low : ℕ) (s : List ℕ) → group ≤ low → low < byte_values → second_byte at low s ≡ Value n next → Begins (low ∷ s)
+  begins_two : (low : ℕ) (s : List ℕ) → group ≤ low → low < byte_values → second_byte at low s ≡ number_read n next → Begins (low ∷ s)
   unfolding number_bytes
   begins_two low [] h b e = never (cc)
   begins_two low (high ∷ rest) h b e = tested (eqb high 0) (leb group high) refl refl
@@ -57,7 +95,7 @@ module _ (at : ℕ) {n next : ℕ} where
           let t : m ≤ limits.number = omega arith in
           (m, rest, t, rw (le-ltb m group (omega arith), le-leb m limits.number t, x, y), omega arith)
 
-  begins : (s : List ℕ) → AllBytes s → first_byte at s ≡ Value n next → Begins s
+  begins : (s : List ℕ) → AllBytes s → first_byte at s ≡ number_read n next → Begins s
   unfolding number_bytes
   begins [] small e = never (cc)
   begins (low ∷ rest) small e =
@@ -88,7 +126,7 @@ module _ (bytes : List ℕ) (at : ℕ) where
       (standing a rest (omega arith) e, record { here = rest_behind a rest e; behind = omega arith; inside = s.inside })
 
   -- a number that is read stands there in its shortest form, and no other does
-  pub number_there : (n next : ℕ) → n ≤ limits.number → Stands bytes at (number_bytes n) next → number_at bytes at ≡ Value n next
+  pub number_there : (n next : ℕ) → n ≤ limits.number → Stands bytes at (number_bytes n) next → number_at bytes at ≡ number_read n next
   unfolding number_at number_bytes
   number_there n next t s =
       by_cases (dec_lt n group)
@@ -100,14 +138,13 @@ module _ (bytes : List ℕ) (at : ℕ) where
       let v : low - group + group * high ≡ n = omega arith in
       rw (r.here, r.behind, le-ltb low group (omega arith), ne_eqb high 0 (omega arith), lt-leb group high (omega arith), v)
 
-  pub number_back : (n next : ℕ) → AllBytes bytes → number_at bytes at ≡ Value n next → (n ≤ limits.number) × Stands bytes at (number_bytes n) next
+  pub number_back : (n next : ℕ) → AllBytes bytes → number_at bytes at ≡ number_read n next → (n ≤ limits.number) × Stands bytes at (number_bytes n) next
   unfolding number_at
   number_back n next small read =
       let (m, rest, t, e, h) = begins at (drop at bytes) (λ i. rw get_or-drop (small (at + i))) read in
       let s = standing (number_bytes m) rest (omega (arith, length-drop at bytes)) e in
       let v = number_there m (at + length (number_bytes m)) t s in
-      let p : m ≡ n = cc in
-      let q : at + length (number_bytes m) ≡ next = cc in
+      let (p, q) = same_number (sym v ∙ read) in
       (rw p at t, rw (q, p) at s)
 
 -- no number is too large
@@ -115,16 +152,15 @@ abbrev AllFit : List ℕ → Type 0
 AllFit ns = (x : ℕ) → get_or ns x 0 ≤ limits.number
 
 -- where an item is read, so is its next number
-value : (at : ℕ) (number : Number) (more : ℕ → ℕ → Read) {code i j k last : ℕ} → with_number at number more ≡ Item code i j k last
-    → (n : ℕ) × (next : ℕ) × (number ≡ Value n next) × (more n next ≡ Item code i j k last)
-value at (Value n next) more e = (n, next, refl, e)
-value at Short more e = never (cc)
-value at Long more e = never (cc)
+value : (at : ℕ) (number : Result Number Fault) (more : ℕ → ℕ → Standing) {code i j k last : ℕ} → with_number at number more ≡ item_read code i j k last
+    → (n : ℕ) × (next : ℕ) × (number ≡ number_read n next) × (more n next ≡ item_read code i j k last)
+value at (Ok n) more e = (n.value, n.next, refl, e)
+value at (Err f) more e = never (cc)
 
 -- the numbers still to come are read where they stand by their bytes, and stand so where they are read
 module _ (bytes : List ℕ) (at code : ℕ) where
   numbers_there : (ns read : List ℕ) (next last : ℕ) → AllFit ns → Stands bytes next (numbers_bytes ns) last
-      → numbers_from (length ns) bytes at code read next ≡ Item code (get_or (read ++ ns) 0 0) (get_or (read ++ ns) 1 0) (get_or (read ++ ns) 2 0) last
+      → numbers_from (length ns) bytes at code read next ≡ item_read code (get_or (read ++ ns) 0 0) (get_or (read ++ ns) 1 0) (get_or (read ++ ns) 2 0) last
   unfolding numbers_from numbers_bytes
   numbers_there [] read next last fit s = let e : last ≡ next = omega arith in rw (append-nil, e)
   numbers_there (n ∷ ns) read next last fit s =
@@ -134,11 +170,11 @@ module _ (bytes : List ℕ) (at code : ℕ) where
       (numbers_there ns (read ++ n ∷ []) mid last (λ x. fit (suc x)) q)
 
   numbers_back : (m : ℕ) (read : List ℕ) (next : ℕ) {c i j k last : ℕ} → AllBytes bytes → next ≤ length bytes
-      → numbers_from m bytes at code read next ≡ Item c i j k last
+      → numbers_from m bytes at code read next ≡ item_read c i j k last
       → (ns : List ℕ) × (length ns ≡ m) × AllFit ns × Stands bytes next (numbers_bytes ns) last
   unfolding numbers_from numbers_bytes
   numbers_back zero read next {last} small h e =
-      let q : last ≡ next = cc in
+      let q = sym (same_item e).nexts in
       ([], refl, (λ x. omega arith), record { here = rw q; behind = omega arith; inside = omega arith })
   numbers_back (suc m) read next small h e =
       let (n, mid, v, more) = value at (number_at bytes next) _ e in
@@ -174,9 +210,9 @@ fitting table code ns known l fit =
     (record { known = known; first = fit 0; second = fit 1; third = fit 2; lacks = rw own all }, rw own)
 
 -- where an item is read there is a known code, and its numbers are read behind it
-coded : (table : Table) (bytes : List ℕ) (at : ℕ) (s : List ℕ) {code i j k next : ℕ} → code_first table bytes at s ≡ Item code i j k next
+coded : (table : Table) (bytes : List ℕ) (at : ℕ) (s : List ℕ) {code i j k next : ℕ} → code_first table bytes at s ≡ item_read code i j k next
     → (c : ℕ) × (rest : List ℕ) × (s ≡ c ∷ rest) × (numbers_of table c < no_code)
-    × (numbers_from (numbers_of table c) bytes at c [] (at + 1) ≡ Item code i j k next)
+    × (numbers_from (numbers_of table c) bytes at c [] (at + 1) ≡ item_read code i j k next)
 coded table bytes at [] e = never (cc)
 coded table bytes at (c ∷ rest) e =
     by_cases (dec_lt (numbers_of table c) no_code)
@@ -186,7 +222,7 @@ coded table bytes at (c ∷ rest) e =
 -- an item that is read stands there by its bytes, and what stands there by an item's bytes is read
 module _ (table : Table) (bytes : List ℕ) (at : ℕ) where
   pub item_there : (code i j k next : ℕ) → Fitting table code i j k → Stands bytes at (item_bytes table code i j k) next
-      → item_at table bytes at ≡ Item code i j k next
+      → item_at table bytes at ≡ item_read code i j k next
   unfolding item_at item_bytes
   item_there code i j k next f s =
       let all : List ℕ = i ∷ j ∷ k ∷ [] in
@@ -198,7 +234,7 @@ module _ (table : Table) (bytes : List ℕ) (at : ℕ) where
       let r = numbers_there bytes at code ns [] (at + 1) next (λ x. rw (← same x) (fit x)) numbers in
       rw (s.here, lt-leb no_code (numbers_of table code) f.known) (rw (l, ← same 0, ← same 1, ← same 2) at r)
 
-  pub item_back : (code i j k next : ℕ) → AllBytes bytes → item_at table bytes at ≡ Item code i j k next
+  pub item_back : (code i j k next : ℕ) → AllBytes bytes → item_at table bytes at ≡ item_read code i j k next
       → Fitting table code i j k × Stands bytes at (item_bytes table code i j k) next
   unfolding item_at
   item_back code i j k next small read =
@@ -208,8 +244,10 @@ module _ (table : Table) (bytes : List ℕ) (at : ℕ) where
       let (f, own) = fitting table c ns t l fit in
       let s = rw (← own) at (joined bytes at first more) in
       let v = item_there c (get_or ns 0 0) (get_or ns 1 0) (get_or ns 2 0) next f s in
-      let p : c ≡ code = cc in
-      let x : get_or ns 0 0 ≡ i = cc in
-      let y : get_or ns 1 0 ≡ j = cc in
-      let z : get_or ns 2 0 ≡ k = cc in
-      (rw (x, y, z, p) at f, rw (x, y, z, p) at s)
+      let q = same_item (sym v ∙ read) in
+      let x = q.firsts in
+      let y = q.seconds in
+      let z = q.thirds in
+      let p = q.codes in
+      let own : item_bytes table c (get_or ns 0 0) (get_or ns 1 0) (get_or ns 2 0) ≡ item_bytes table code i j k = cc in
+      (rw (x, y, z, p) at f, rw (own, q.nexts) at s)

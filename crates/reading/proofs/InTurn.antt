@@ -11,27 +11,27 @@ use lib.ListN.{length, length-append, drop_of_length-le}
 use Rattle.ground.specs.Buffers.{AllBytes}
 use Rattle.ground.specs.Each.{Each}
 use Rattle.reading.specs.InTurn.{Outcome, fine, bad, Kind, AllRead, items, refused, after_read, after_checked, in_turn, read_all, bytes_of_all}
-use Rattle.reading.specs.Items.{item_at, item_bytes, numbers_of, no_code}
+use Rattle.std.specs.Prelude.{None, Some, Ok, Err}
+use Rattle.reading.specs.Items.{Standing, item_at, item_read, item_bytes, numbers_of, no_code}
 use Rattle.ground.specs.Refusals.{place_of}
 use Rattle.reading.specs.declared.item.Table.{Table}
-use Rattle.reading.specs.declared.item.Read.{Read}
 use Rattle.ground.specs.declared.refusal.Refusal.{Refusal}
 use Rattle.reading.proofs.Bytes.{Stands, Fitting, item_there, item_back, joined, parted}
 use Rattle.reading.proofs.Items.{ended, end_back, refused_place}
 
 -- what is read before the end lies before it
-before_end : (table : Table) (bytes : List ℕ) (at : ℕ) → (Read.End ≡ item_at table bytes at → ⊥) → at < length bytes
+before_end : (table : Table) (bytes : List ℕ) (at : ℕ) → (Ok None ≡ item_at table bytes at → ⊥) → at < length bytes
 before_end table bytes at h =
     by_cases (dec_lt at (length bytes)) (λ l. l) (λ l. absurd (h (ended table bytes at (omega arith))))
 
 -- an item takes a byte at least
-pub forward : (table : Table) (bytes : List ℕ) (at code i j k next : ℕ) → AllBytes bytes → Read.Item code i j k next ≡ item_at table bytes at → at < next
+pub forward : (table : Table) (bytes : List ℕ) (at code i j k next : ℕ) → AllBytes bytes → item_read code i j k next ≡ item_at table bytes at → at < next
 unfolding item_bytes
 forward table bytes at code i j k next small is =
     let (fits, stands) = item_back table bytes at code i j k next small (sym is) in
     omega arith
 
-pub item_inside : (table : Table) (bytes : List ℕ) (at code i j k next : ℕ) → Read.Item code i j k next ≡ item_at table bytes at → at < length bytes
+pub item_inside : (table : Table) (bytes : List ℕ) (at code i j k next : ℕ) → item_read code i j k next ≡ item_at table bytes at → at < length bytes
 item_inside table bytes at code i j k next is =
     before_end table bytes at (λ h. let z : ◌≡◌ {A = ℕ} 0 1 = cc in omega arith)
 
@@ -54,7 +54,7 @@ module _ {A : Type 0} (kind : Kind A) where
   turn_first (b ∷ bytes) h = record { turns = length (b ∷ bytes); enough = omega arith; rest = refl }
 
   module _ (bytes : List ℕ) (at : ℕ) (is : List A) (t : Turn kind bytes at is) where
-    pub turn_end : Read.End ≡ item_at kind.table bytes at → items is ≡ read_all kind bytes
+    pub turn_end : Ok None ≡ item_at kind.table bytes at → items is ≡ read_all kind bytes
     unfolding in_turn
     turn_end e = go t.turns t.rest
       where
@@ -63,20 +63,20 @@ module _ {A : Type 0} (kind : Kind A) where
         go (suc n) r = rw (← e) at r
 
     -- a turn is left for an item or a refusal
-    one_left : (Read.End ≡ item_at kind.table bytes at → ⊥) → (m : ℕ) × (t.turns ≡ suc m)
+    one_left : (Ok None ≡ item_at kind.table bytes at → ⊥) → (m : ℕ) × (t.turns ≡ suc m)
     one_left h = go t.turns t.enough
       where
         go : (n : ℕ) → length bytes - at ≤ n → (m : ℕ) × (n ≡ suc m)
         go zero l = absurd (omega (arith, before_end kind.table bytes at h))
         go (suc m) l = (m, refl)
 
-    pub turn_refused : (r : Refusal) → Read.Refused r ≡ item_at kind.table bytes at → refused r ≡ read_all kind bytes
+    pub turn_refused : (r : Refusal) → Err r ≡ item_at kind.table bytes at → refused r ≡ read_all kind bytes
     unfolding in_turn
     turn_refused r e =
         let n = one_left (λ h. let z : ◌≡◌ {A = ℕ} 0 1 = cc in omega arith) in
         rw (n.1, ← e) at t.rest
 
-    module _ (code i j k next : ℕ) (read : Read.Item code i j k next ≡ item_at kind.table bytes at) (item : A) (own : item ≡ kind.make code i j k) where
+    module _ (code i j k next : ℕ) (read : item_read code i j k next ≡ item_at kind.table bytes at) (item : A) (own : item ≡ kind.make code i j k) where
       left : (m : ℕ) × (t.turns ≡ suc m)
       left = one_left (λ h. let z : ◌≡◌ {A = ℕ} 0 1 = cc in omega arith)
 
@@ -134,7 +134,7 @@ module _ {A : Type 0} (kind : Kind A) (own : A → List ℕ) where
         at : ℕ
         before : List A
         so_far : SoFar at before
-        why : (item_at kind.table bytes at ≡ Read.Refused r) ⊎ ((i : A) × (kind.check before at i ≡ bad r))
+        why : (item_at kind.table bytes at ≡ Err r) ⊎ ((i : A) × (kind.check before at i ≡ bad r))
 
       -- how reading comes out: at the end the bytes of the items so far are all the bytes
       abbrev Ends : AllRead A → Type 0
@@ -154,10 +154,15 @@ module _ {A : Type 0} (kind : Kind A) (own : A → List ℕ) where
           checked i rest (bad r) e on = record { at = at; before = is; so_far = s; why = inr (i, e) }
 
           read : ((next : ℕ) (js : List A) → SoFar next js → length bytes - next ≤ n → Ends (in_turn kind n bytes next js))
-              → (r : Read) → item_at kind.table bytes at ≡ r
+              → (r : Standing) → item_at kind.table bytes at ≡ r
               → Ends (after_read r (items is) λ code i j k next.
               after_checked (kind.check is at (kind.make code i j k)) (in_turn kind n bytes next (is ++ kind.make code i j k ∷ [])))
-          read on (Read.Item code i j k next) e =
+          read on (Ok (Some r)) e =
+              let code = r.code in
+              let i = r.first in
+              let j = r.second in
+              let k = r.third in
+              let next = r.next in
               let item = kind.make code i j k in
               let (fits, stands) = item_back kind.table bytes at code i j k next small e in
               let all : Stands bytes 0 (bytes_of_all own (is ++ item ∷ [])) next =
@@ -165,8 +170,8 @@ module _ {A : Type 0} (kind : Kind A) (own : A → List ℕ) where
               checked item _ (kind.check is at item) refl λ f.
               on next (is ++ item ∷ []) (record { holds = more is at item s.holds f; stands = all })
               (omega (arith, forward kind.table bytes at code i j k next small (sym e)))
-          read on Read.End e = at_end_lem at is s (end_back kind.table bytes at e)
-          read on (Read.Refused r) e = record { at = at; before = is; so_far = s; why = inl e }
+          read on (Ok None) e = at_end_lem at is s (end_back kind.table bytes at e)
+          read on (Err r) e = record { at = at; before = is; so_far = s; why = inl e }
 
       all_turns : (length bytes ≡ 0 → ⊥) → Ends (read_all kind bytes)
       unfolding bytes_of_all

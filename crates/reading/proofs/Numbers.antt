@@ -11,36 +11,37 @@ use borrow.Author.Tests.{lt-ltb, le-ltb, le-leb, lt-leb, ne_eqb}
 use lib.Dec.{eqb, leb}
 use lib.ListN.{length, get_or, drop_of_length-le}
 use lib.Seq.{drop-cons}
-use Rattle.reading.specs.Numbers.{group, number_at, number_bytes}
+use Rattle.std.specs.Prelude.{Err}
+use Rattle.reading.specs.Numbers.{group, number_at, number_read, number_bytes}
 use Rattle.ground.specs.Limits.{limits}
-use Rattle.reading.specs.declared.number.Number.TheVariants.{Value, Short, Long}
+use Rattle.reading.specs.declared.number.Fault.TheVariants.{Short, Long}
 
 -- behind the last byte
-pub ended : (s : List ℕ) (at : ℕ) → length s ≤ at → Short ≡ number_at s at
+pub ended : (s : List ℕ) (at : ℕ) → length s ≤ at → Err Short ≡ number_at s at
 unfolding number_at
 ended s at h = rw (drop_of_length-le s h)
 
 module _ (s : List ℕ) (at low : ℕ) (inside : at < length s) (first : low ≡ get_or s at 0) where
   -- one byte
-  pub one : low < group → Value low (at + 1) ≡ number_at s at
+  pub one : low < group → number_read low (at + 1) ≡ number_at s at
   unfolding number_at
   one h = rw (drop-cons s at 0 inside, ← first, lt-ltb low group h)
 
   -- a first byte that says that another follows, where none does
-  pub cut : group ≤ low → length s ≤ at + 1 → Short ≡ number_at s at
+  pub cut : group ≤ low → length s ≤ at + 1 → Err Short ≡ number_at s at
   unfolding number_at
   cut h e = rw (drop-cons s at 0 inside, ← first, le-ltb low group h, drop_of_length-le s {i = suc at} (omega arith))
 
   module _ (high : ℕ) (follows : group ≤ low) (more : at + 1 < length s) (second : high ≡ get_or s (at + 1) 0) where
     -- a second byte that is 0 or says that a third follows
-    pub long : (eqb high 0 || leb group high) ≡ true → Long ≡ number_at s at
+    pub long : (eqb high 0 || leb group high) ≡ true → Err Long ≡ number_at s at
     unfolding number_at
     long h =
         let e : high ≡ get_or s (suc at) 0 = rw add-one at second in
         rw (drop-cons s at 0 inside, ← first, le-ltb low group follows, drop-cons s (suc at) 0 (omega arith), ← e, h)
 
     -- two bytes
-    pub two : (high ≡ 0 → ⊥) → high < group → Value (low - group + group * high) (at + 1 + 1) ≡ number_at s at
+    pub two : (high ≡ 0 → ⊥) → high < group → number_read (low - group + group * high) (at + 1 + 1) ≡ number_at s at
     unfolding number_at
     two h t =
         let e : high ≡ get_or s (suc at) 0 = rw add-one at second in

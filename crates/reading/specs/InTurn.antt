@@ -2,9 +2,9 @@
 -- number, then 5, 6, 7, 8 (in code 5, 10, 11, 12)", and "One reader walks rules and code alike". The first refusal
 -- decides; no bytes at all are 1.
 use Rattle.std.specs.Prelude.{List, [], ◌∷◌, ◌++◌, ℕ, zero, suc, length}
-use Rattle.reading.specs.Items.{item_at}
+use Rattle.std.specs.Prelude.{None, Some, Ok, Err}
+use Rattle.reading.specs.Items.{Standing, item_at}
 use Rattle.reading.specs.declared.item.Table.{Table}
-use Rattle.reading.specs.declared.item.Read.{Read}
 use Rattle.ground.specs.declared.refusal.Refusal.{Refusal}
 
 -- What becomes of an item once it is read
@@ -25,10 +25,10 @@ pub data AllRead (A : Type 0) : Type 0 where
   refused : Refusal → AllRead A
 
 -- After what stands at a place: the end, a refusal, or more with the item and the place behind it
-abbrev pub after_read : {A : Type 0} → Read → AllRead A → (ℕ → ℕ → ℕ → ℕ → ℕ → AllRead A) → AllRead A
-after_read (Read.Item code i j k next) end more = more code i j k next
-after_read Read.End end more = end
-after_read (Read.Refused r) end more = refused r
+abbrev pub after_read : {A : Type 0} → Standing → AllRead A → (ℕ → ℕ → ℕ → ℕ → ℕ → AllRead A) → AllRead A
+after_read (Ok (Some read)) end more = more read.code read.first read.second read.third read.next
+after_read (Ok None) end more = end
+after_read (Err r) end more = refused r
 
 -- After an item is checked: more, or its refusal
 abbrev pub after_checked : {A : Type 0} → Outcome → AllRead A → AllRead A

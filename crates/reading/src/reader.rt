@@ -1,47 +1,49 @@
-// The one reader that walks rules and code alike and always knows its place. `item` takes it apart and leaves the work
-// to `item_at`, on the bytes and the place. Above it, `read_item` has plain parameters: the loaders call it and keep
-// the place as a number.
+// The one reader that walks rules and code alike and always knows its place: a loader keeps it, and its place is that
+// of the item that is being checked. The work is done by `item_at`, on the bytes and the place.
 ghost use Rattle.std.specs.Prelude.{◌≡◌};
 ghost use Rattle.reading.specs.Items.{item_at};
 
 use crate::item::{Read, Table, item_at};
+use ground::refusal::Refusal;
 
-// The lent bytes of a rule or of code, and a place in them.
+// The lent bytes of a rule or of code, the table of their code bytes, and a place in them.
 #[derive(Clone, Copy)]
-pub(crate) struct Reader<'a> {
-    bytes: &'a [u8],
-    at: usize,
+pub struct Reader<'a> {
+    pub table: Table,
+    pub bytes: &'a [u8],
+    pub at: usize,
 }
 
 impl<'a> Reader<'a> {
     // A reader over the bytes, at their start.
-    fn new(bytes: &'a [u8]) -> Reader<'a>
-        ensures { (result.bytes ≡ bytes.entry) × (result.at ≡ 0) }
+    pub fn new(table: Table, bytes: &'a [u8]) -> Reader<'a>
+        ensures { result ≡ record { table = table; bytes = bytes.entry; at = 0 } }
     {
-        Reader { bytes, at: 0 }
+        Reader {
+            table,
+            bytes,
+            at: 0,
+        }
     }
 
     // What stands at the reader's place: an item, the end, or a refusal.
-    fn item(self, table: Table) -> Read
-        ensures { result ≡ item_at table self.entry.bytes.now self.entry.at }
+    pub fn item(&self) -> Result<Option<Read>, Refusal>
+        ensures { result ≡ item_at self.now.table self.now.bytes.now self.now.at }
     {
-        item_at(table, self.bytes, self.at)
+        item_at(self.table, self.bytes, self.at)
     }
 
-    // The reader moved on to another place: past an item, to the one behind it that `item` told.
-    fn moved(self, next: usize) -> Reader<'a>
-        ensures { (result.bytes ≡ self.entry.bytes) × (result.at ≡ next) }
+    // Moves the reader past an item, to the place behind it.
+    pub fn pass(&mut self, read: Read)
+        ensures { self.new ≡ record { table = self.old.table; bytes = self.old.bytes; at = read.next } }
     {
-        Reader {
-            bytes: self.bytes,
-            at: next,
-        }
+        self.at = read.next;
     }
 }
 
-// What stands at a place, which may be the end or lie behind it: a reader over the bytes is moved on to the place.
-pub fn read_item(table: Table, bytes: &[u8], at: usize) -> Read
+// What stands at a place, which may be the end or lie behind it.
+pub fn read_item(table: Table, bytes: &[u8], at: usize) -> Result<Option<Read>, Refusal>
     ensures { result ≡ item_at table bytes.now at }
 {
-    Reader::new(bytes).moved(at).item(table)
+    Reader { table, bytes, at }.item()
 }

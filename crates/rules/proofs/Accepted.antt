@@ -17,7 +17,8 @@ use Rattle.rules.specs.Items.{row_of_item, postfix, apply, bytes_of_item, rule_b
 use Rattle.rules.specs.Loading.{Items, Reading, accepted, refused, loaded_of, one_value, at_end, item_outcome, rule_kind, check_item, rule_counts, stack_from}
 use Rattle.rules.specs.Loading.{stack_of, read_rule}
 use Rattle.rules.specs.declared.item.Item.{Item}
-use Rattle.rules.specs.declared.check.CheckedItem.{CheckedItem}
+use Rattle.std.proofs.Common.{Result, Ok, Err}
+use Rattle.rules.specs.declared.check.RuleCounts.{RuleCounts}
 use Rattle.rules.specs.declared.load.Loaded.{Loaded}
 use Rattle.rules.proofs.Good.{good_none, good_more}
 use Rattle.rules.proofs.Checking.{fine}
@@ -25,7 +26,7 @@ use Rattle.rules.proofs.RuleBytes.{item_bytes_lem, rule_length}
 
 -- a refusal is no acceptance
 differ : {A : Type 0} {r : Refusal} {is : Items} {f : Formula} → refused r ≡ accepted is f → A
-differ e = absurd (let z : ◌≡◌ {A = ℕ} 0 1 = cc in omega arith)
+differ e = cc
 
 -- the items of a formula make that formula, of whatever stands before them
 pub made : (f : Formula) (st : List Formula) (is : Items) → stack_from st (postfix f ++ is) ≡ stack_from (f ∷ st) is
@@ -64,9 +65,9 @@ at_end_lem n (AllRead.refused r) is f e = differ e
 pub good_on : (is : Items) (at : ℕ) (i : Item) → GoodItems is → rule_kind.check is at i ≡ Outcome.fine → GoodItems (is ++ i ∷ [])
 good_on is at i g e = go (check_item (rule_counts is) at (row_of_item i)) refl e
   where
-    go : (d : CheckedItem) → check_item (rule_counts is) at (row_of_item i) ≡ d → item_outcome d ≡ Outcome.fine → GoodItems (is ++ i ∷ [])
-    go (CheckedItem.Next c) j e = good_more is i c g (fine (rule_counts is) at i c j)
-    go (CheckedItem.Refused r) j e = absurd (let z : ◌≡◌ {A = ℕ} 0 1 = cc in omega arith)
+    go : (d : Result RuleCounts Refusal) → check_item (rule_counts is) at (row_of_item i) ≡ d → item_outcome d ≡ Outcome.fine → GoodItems (is ++ i ∷ [])
+    go (Ok c) j e = good_more is i c g (fine (rule_counts is) at i c j)
+    go (Err r) j e = cc
 
 -- good items are short
 pub good_short : (is : Items) → GoodItems is → length (rule_bytes is) ≤ most_rule_bytes
@@ -98,11 +99,11 @@ accepted_rule bytes is f small e =
     }
 
 -- What an answer of loading tells of the rule that was read
-pub loaded_accepted : (read : Reading) (n h : ℕ) → Loaded.Accepted n h ≡ loaded_of read
-    → (is : Items) × (f : Formula) × (read ≡ accepted is f) × (n ≡ length is) × (h ≡ horizon f)
-loaded_accepted (accepted is f) n h e = (is, f, refl, cc, cc)
-loaded_accepted (refused r) n h e = absurd (let z : ◌≡◌ {A = ℕ} 0 1 = cc in omega arith)
+pub loaded_accepted : (read : Reading) (l : Loaded) → Ok l ≡ loaded_of read
+    → (is : Items) × (f : Formula) × (read ≡ accepted is f) × (l.items ≡ length is) × (l.horizon ≡ horizon f)
+loaded_accepted (accepted is f) l e = let own : l ≡ record { items = length is; horizon = horizon f } = cc in (is, f, refl, rw own, rw own)
+loaded_accepted (refused r) l e = cc
 
-pub loaded_refused : (read : Reading) (r : Refusal) → Loaded.Refused r ≡ loaded_of read → read ≡ refused r
-loaded_refused (accepted is f) r e = absurd (let z : ◌≡◌ {A = ℕ} 0 1 = cc in omega arith)
+pub loaded_refused : (read : Reading) (r : Refusal) → Err r ≡ loaded_of read → read ≡ refused r
+loaded_refused (accepted is f) r e = cc
 loaded_refused (refused s) r e = cc

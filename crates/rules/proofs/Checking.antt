@@ -2,7 +2,6 @@
 use mathlib.Core.Path.{◌≡◌}
 use mathlib.Core.Bool.{◌||◌}
 use Prim.Native.Nat.{ℕ}
-use native.Mathlib.Omega.{arith}
 use borrow.Author.Tests.{ltb-false}
 use lib.Dec.{ltb}
 use Rattle.ground.specs.Limits.{limits}
@@ -13,12 +12,12 @@ use Rattle.rules.specs.Items.{row_of_item}
 use Rattle.rules.specs.Loading.{check_item, bad_window, rule_too_large, rule_counted}
 use Rattle.rules.specs.declared.item.Item.{Item}
 use Rattle.rules.specs.declared.check.RuleCounts.{RuleCounts}
-use Rattle.rules.specs.declared.check.CheckedItem.{CheckedItem}
+use Rattle.std.proofs.Common.{Ok, Err}
 
-apart : {r : Refusal} {d : RuleCounts} → CheckedItem.Refused r ≡ CheckedItem.Next d → ⊥
-apart e = let z : ◌≡◌ {A = ℕ} 0 1 = cc in omega arith
+apart : {r : Refusal} {d : RuleCounts} → Err r ≡ Ok d → ⊥
+apart e = cc
 
-pub fine : (c : RuleCounts) (at : ℕ) (i : Item) (d : RuleCounts) → check_item c at (row_of_item i) ≡ CheckedItem.Next d → FineItem c i d
+pub fine : (c : RuleCounts) (at : ℕ) (i : Item) (d : RuleCounts) → check_item c at (row_of_item i) ≡ Ok d → FineItem c i d
 unfolding check_item bad_window rule_too_large
 fine c at i d e =
     let row = row_of_item i in

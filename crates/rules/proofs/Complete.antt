@@ -22,7 +22,7 @@ use Rattle.rules.specs.Loading.{Items, accepted, at_end, item_outcome, rule_kind
 use Rattle.rules.specs.Loading.{stack_of, timed_in, lower_in, read_rule}
 use Rattle.rules.specs.declared.item.Item.{Item}
 use Rattle.rules.specs.declared.check.RuleCounts.{RuleCounts}
-use Rattle.rules.specs.declared.check.CheckedItem.{CheckedItem}
+use Rattle.std.proofs.Common.{Ok}
 use Rattle.rules.proofs.Accepted.{made}
 use Rattle.rules.proofs.RuleBytes.{item_bytes_lem}
 use Rattle.rules.proofs.Stack.{stack_more, timed_more, lower_more}
@@ -57,7 +57,7 @@ numbered (Item.Globally a b) r = numbers a b (omega arith) refl refl
 
 -- an item that passes each test is not refused
 passed : (c : RuleCounts) (at : ℕ) (i : Item) → FineItem c i (rule_counted c (row_of_item i))
-    → check_item c at (row_of_item i) ≡ CheckedItem.Next (rule_counted c (row_of_item i))
+    → check_item c at (row_of_item i) ≡ Ok (rule_counted c (row_of_item i))
 unfolding check_item bad_window rule_too_large
 passed c at i f = simp (le-ltb, f.ranges.flag, f.ranges.window, f.ranges.bound, f.operands, f.items, f.timed, f.lower)
 

@@ -4,6 +4,7 @@ pub mod Horizon
 pub mod Stack
 pub mod Checking
 pub mod Good
+pub mod Largest
 pub mod Gathering
 pub mod Turns
 pub mod RuleBytes

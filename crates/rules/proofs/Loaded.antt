@@ -1,89 +1,49 @@
--- What is known of a rule that was loaded. Its items are those that its columns were made of, as an item's numbers give it back; and where it is accepted, its
--- bytes are a rule.
-use mathlib.Core.Path.{◌≡◌, refl, ap, ◌∙◌}
-use mathlib.Core.List.{List, [], ◌∷◌, map}
-use Prim.Native.Nat.{ℕ, zero, suc, ◌≤◌, ◌<◌}
+-- What is known of a rule that was loaded: its items stand in its array, in order, and its bytes are a rule.
+use mathlib.Core.Path.{◌≡◌, refl, ◌∙◌}
+use mathlib.Core.List.{List}
+use Prim.Native.Nat.{ℕ}
 use native.Mathlib.Omega.{arith}
-use lib.ListN.{length, get_or, take, length-append}
-use lib.Seq.{take-suc, take-length}
-use Rattle.ground.specs.Buffers.{AllBytes}
-use Rattle.ground.specs.Limits.{limits}
-use Rattle.ground.proofs.Padded.{get_or-padded}
+use lib.ListN.{length}
+use Rattle.std.proofs.lemmas.List.{take-append-le}
+use lib.Seq.{take-length}
+use Rattle.ground.specs.declared.refusal.Refusal.{Refusal}
 use Rattle.rules.specs.Accepted.{IsRule}
 use Rattle.rules.specs.Formula.{Formula}
-use Rattle.rules.specs.Items.{row_of_item, item_of}
-use Rattle.rules.specs.Loaded.{item_in, items_in}
-use Rattle.rules.specs.Loading.{Items, accepted, column, read_rule, rule_of}
-use Rattle.rules.specs.declared.item.Item.{Item}
-use Rattle.rules.specs.declared.item.ItemRow.{ItemRow}
-use Rattle.rules.specs.declared.load.Loaded.{Loaded}
+use Rattle.rules.specs.Loaded.{LoadedFrom, items_in, loaded_in}
+use Rattle.rules.specs.Loading.{Items, Reading, accepted, refused, in_array, rule_kept, loaded_of, read_rule, rule_of}
 use Rattle.rules.specs.declared.load.Rule.{Rule}
-use Rattle.rules.proofs.Accepted.{accepted_rule, loaded_accepted}
+use Rattle.rules.proofs.Accepted.{accepted_rule}
+use Rattle.std.proofs.Common.{Ok, Err}
 
--- an item's numbers give the item back
-row_back : (i : Item) → item_of (row_of_item i).code (row_of_item i).flag (row_of_item i).lower (row_of_item i).upper ≡ i
-unfolding item_of
-row_back Item.True = refl
-row_back Item.False = refl
-row_back (Item.Flag k) = refl
-row_back Item.Not = refl
-row_back Item.And = refl
-row_back Item.Or = refl
-row_back (Item.Until a b) = refl
-row_back (Item.Release a b) = refl
-row_back (Item.Eventually a b) = refl
-row_back (Item.Globally a b) = refl
-
--- a column's element is its item's number
-map_at : (g : Item → ℕ) (is : Items) (k : ℕ) → k < length is → get_or (map g is) k 0 ≡ g (get_or is k Item.True)
-map_at g [] k h = absurd (omega arith)
-map_at g (i ∷ is) zero h = refl
-map_at g (i ∷ is) (suc k) h = map_at g is k (omega arith)
-
-column_at : (f : ItemRow → ℕ) (is : Items) (k : ℕ) → k < length is → get_or (column f is) k 0 ≡ f (row_of_item (get_or is k Item.True))
-column_at f is k h = get_or-padded limits.items (map (λ i. f (row_of_item i)) is) k ∙ map_at (λ i. f (row_of_item i)) is k h
-
--- The items of a rule that was loaded: one, the first so many, and all of them
+-- The items of a rule that is accepted
 module _ (is : Items) (f : Formula) where
-  pub item_back : (k : ℕ) → k < length is → item_in (rule_of (accepted is f)) k ≡ get_or is k Item.True
-  unfolding item_in rule_of
-  item_back k h =
-      rw (column_at (λ r. r.code) is k h, column_at (λ r. r.flag) is k h, column_at (λ r. r.lower) is k h, column_at (λ r. r.upper) is k h)
-      (row_back (get_or is k Item.True))
+  pub items_back : items_in (rule_kept is f) (length is) ≡ is
+  unfolding items_in rule_kept in_array
+  items_back = take-append-le (length is) is _ (omega arith) ∙ take-length is
 
-  pub items_prefix : (k : ℕ) → k ≤ length is → items_in (rule_of (accepted is f)) k ≡ take k is
-  unfolding items_in
-  items_prefix zero h = refl
-  items_prefix (suc k) h = rw (items_prefix k (omega arith), item_back k (omega arith), take-suc is k Item.True (omega arith))
-
-  pub items_back : items_in (rule_of (accepted is f)) (length is) ≡ is
-  items_back = items_prefix (length is) (omega arith) ∙ take-length is
-
--- as many as are taken
-pub items_length : (rule : Rule) (k : ℕ) → length (items_in rule k) ≡ k
-unfolding items_in
-items_length rule zero = refl
-items_length rule (suc k) = rw length-append (omega (arith, items_length rule k))
-
--- a rule that is loaded, and accepted with so many items
-pub record Accepts (bytes : List ℕ) (rule : Rule) (n : ℕ) : Type 0 where
+-- a rule that is loaded, and so accepted
+pub record Accepts (bytes : List ℕ) (rule : Rule) : Type 0 where
   pub items : Items
   pub formula : Formula
   pub read : read_rule bytes ≡ accepted items formula
   pub is_rule : IsRule bytes items formula
-  pub own : rule ≡ rule_of (accepted items formula)
-  pub many : n ≡ length items
+  pub own : rule ≡ rule_kept items formula
 
-pub accepts : (bytes : List ℕ) (rule : Rule) (n h : ℕ) → AllBytes bytes → rule ≡ rule_of (read_rule bytes)
-    → Loaded.Accepted n h ≡ rule.loaded → Accepts bytes rule n
-unfolding rule_of
-accepts bytes rule n h small own e =
-    let (is, f, read, many, near) = loaded_accepted (read_rule bytes) n h (e ∙ ap (λ r. r.loaded) own) in
-    record {
-      items = is;
-      formula = f;
-      read = read;
-      is_rule = accepted_rule bytes is f small read;
-      own = own ∙ ap rule_of read;
-      many = many;
-    }
+pub accepts : (bytes : List ℕ) (rule : Rule) → LoadedFrom bytes rule → Accepts bytes rule
+accepts bytes rule l = go (read_rule bytes) refl l.own
+  where
+    go : (read : Reading) → read_rule bytes ≡ read → Ok rule ≡ rule_of read → Accepts bytes rule
+    go (accepted is f) e own =
+        record { items = is; formula = f; read = e; is_rule = accepted_rule bytes is f l.small e; own = cc }
+    go (refused r) e own = cc
+
+-- or it is refused
+pub rule_refused : (read : Reading) (r : Refusal) → Err r ≡ rule_of read → read ≡ refused r
+rule_refused (accepted is f) r e = cc
+rule_refused (refused s) r e = cc
+
+-- what is told of a rule that was loaded is what loading tells
+pub told : (read : Reading) (rule : Rule) → Ok rule ≡ rule_of read → Ok (loaded_in rule) ≡ loaded_of read
+unfolding loaded_in rule_kept
+told (accepted is f) rule e = let own : rule ≡ rule_kept is f = cc in rw own
+told (refused r) rule e = cc

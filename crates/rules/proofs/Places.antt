@@ -2,7 +2,6 @@
 use mathlib.Core.Path.{◌≡◌, refl}
 use mathlib.Core.List.{List, [], ◌∷◌}
 use Prim.Native.Nat.{ℕ, ◌≤◌}
-use native.Mathlib.Omega.{arith}
 use lib.Dec.{ltb}
 use lib.ListN.{length}
 use Rattle.ground.specs.Buffers.{AllBytes}
@@ -18,7 +17,8 @@ use Rattle.rules.specs.Items.{row_of_item, bytes_of_item}
 use Rattle.rules.specs.Loading.{Items, refused, one_value, at_end, item_outcome, rule_kind, check_item, bad_window, rule_too_large, rule_counts, rule_counted}
 use Rattle.rules.specs.Loading.{stack_of, read_rule}
 use Rattle.rules.specs.declared.item.Item.{Item}
-use Rattle.rules.specs.declared.check.CheckedItem.{CheckedItem}
+use Rattle.std.proofs.Common.{Result, Err}
+use Rattle.rules.specs.declared.check.RuleCounts.{RuleCounts}
 use Rattle.rules.proofs.Accepted.{good_on, good_short, items_read}
 use Rattle.rules.proofs.Good.{good_none}
 use Rattle.rules.proofs.RuleBytes.{item_bytes_lem}
@@ -27,16 +27,16 @@ use Rattle.rules.proofs.RuleBytes.{item_bytes_lem}
 check_placed : (is : Items) (at : ℕ) (i : Item) → Placed at (rule_kind.check is at i)
 unfolding check_item
 check_placed is at i =
-    let P : CheckedItem → Type 0 = λ j. Placed at (item_outcome j) in
-    both_ways P (ltb limits.flag (row_of_item i).flag) {x = CheckedItem.Refused (Refusal.FlagTooLarge at)} refl
-    (both_ways P (bad_window (row_of_item i).lower (row_of_item i).upper) {x = CheckedItem.Refused (Refusal.BadWindow at)} refl
-    (both_ways P (ltb (rule_counts is).depth (row_of_item i).operands) {x = CheckedItem.Refused (Refusal.TooFewOperands at)} refl
-    (both_ways P (rule_too_large (rule_counted (rule_counts is) (row_of_item i))) {x = CheckedItem.Refused (Refusal.RuleTooLarge at)} refl tt)))
+    let P : Result RuleCounts Refusal → Type 0 = λ j. Placed at (item_outcome j) in
+    both_ways P (ltb limits.flag (row_of_item i).flag) {x = Err (Refusal.FlagTooLarge at)} refl
+    (both_ways P (bad_window (row_of_item i).lower (row_of_item i).upper) {x = Err (Refusal.BadWindow at)} refl
+    (both_ways P (ltb (rule_counts is).depth (row_of_item i).operands) {x = Err (Refusal.TooFewOperands at)} refl
+    (both_ways P (rule_too_large (rule_counted (rule_counts is) (row_of_item i))) {x = Err (Refusal.RuleTooLarge at)} refl tt)))
 
 -- at the end the place is the length
 at_end_lem : (n : ℕ) (r : Refusal) (is : Items) (st : List Formula) → one_value n is st ≡ refused r → place_of r ≡ n
 at_end_lem n r is [] e = let own : r ≡ Refusal.NotOneValue n = cc in rw own
-at_end_lem n r is (f ∷ []) e = absurd (let z : ◌≡◌ {A = ℕ} 0 1 = cc in omega arith)
+at_end_lem n r is (f ∷ []) e = cc
 at_end_lem n r is (f ∷ g ∷ st) e = let own : r ≡ Refusal.NotOneValue n = cc in rw own
 
 pub rule_place : (bytes : List ℕ) (r : Refusal) → AllBytes bytes → read_rule bytes ≡ refused r → place_of r ≤ most_rule_bytes

@@ -21,7 +21,7 @@ use Rattle.rules.specs.Loading.{Items, accepted, refused, at_end, item_outcome, 
 use Rattle.rules.specs.Loading.{stack_from, stack_of, read_rule}
 use Rattle.rules.specs.declared.item.Item.{Item}
 use Rattle.rules.specs.declared.check.RuleCounts.{RuleCounts}
-use Rattle.rules.specs.declared.check.CheckedItem.{CheckedItem}
+use Rattle.std.proofs.Common.{Result, Ok, Err}
 use Rattle.rules.proofs.Accepted.{made}
 use Rattle.rules.proofs.Complete.{Enough, enough, numbered}
 use Rattle.rules.proofs.Stack.{stack_more}
@@ -29,7 +29,7 @@ use Rattle.rules.proofs.Stack.{stack_more}
 -- of an item in range with its operands the check tests the limits alone
 by_limits : (c : RuleCounts) (at : ℕ) (i : Item) → InRange i → (row_of_item i).operands ≤ c.depth
     → let next = rule_counted c (row_of_item i) in
-    check_item c at (row_of_item i) ≡ cond (rule_too_large next) (CheckedItem.Refused (Refusal.RuleTooLarge at)) (CheckedItem.Next next)
+    check_item c at (row_of_item i) ≡ cond (rule_too_large next) (Err (Refusal.RuleTooLarge at)) (Ok next)
 unfolding check_item bad_window
 by_limits c at i r o = simp (le-ltb, r.flag, r.window, r.bound, o)
 
@@ -42,16 +42,16 @@ unfolding rule_counts
 outcome at is [] r e = inl (rw append-nil)
 outcome at is (i ∷ js) r e =
     let behind = at + length (bytes_of_item i) in
-    let P : CheckedItem → Type 0 = λ j. Outcome (is ++ i ∷ js)
+    let P : Result RuleCounts Refusal → Type 0 = λ j. Outcome (is ++ i ∷ js)
     (after_checked (item_outcome j) (checked_from rule_kind bytes_of_item behind (is ++ i ∷ []) js)) in
     rw (by_limits (rule_counts is) at i r.0 e.0)
-    (both_ways P (rule_too_large (rule_counted (rule_counts is) (row_of_item i))) {x = CheckedItem.Refused (Refusal.RuleTooLarge at)} (inr (at, refl))
+    (both_ways P (rule_too_large (rule_counted (rule_counts is) (row_of_item i))) {x = Err (Refusal.RuleTooLarge at)} (inr (at, refl))
     (rw append_assoc at (outcome behind (is ++ i ∷ []) js r.1 (rw stack_more e.1))))
 
 -- items that make a value are one at least
 some : (is : Items) (f : Formula) → stack_of is ≡ f ∷ [] → 1 ≤ length is
 unfolding stack_from
-some [] f e = absurd (let z : ◌≡◌ {A = ℕ} 0 1 = cc in omega arith)
+some [] f e = cc
 some (i ∷ is) f e = omega arith
 
 pub read_or_large : (f : Formula) → Each InRange (postfix f)

@@ -2,10 +2,10 @@
 -- in turn: 2, then 3 or 4 number by number, then 5, 6, 7, 8 ..; 9 last, for rules only"; "At most 64 items, 16 of them
 -- timed, and the lower bounds a of all timed items add up to at most 256. Bounds are 0 to 255 with a ≤ b." What the
 -- check says of an item is a function of the items before it.
-use Rattle.std.specs.Prelude.{Bool, cond, ◌||◌, List, [], ◌∷◌, map, ℕ, ◌+◌, ◌-◌, ltb, length}
+use Rattle.std.specs.Prelude.{Bool, cond, ◌||◌, Result, Ok, Err, List, [], ◌∷◌, ◌++◌, ℕ, ◌+◌, ◌-◌, ltb, length}
+use Rattle.std.specs.Prelude.{replicate}
 use Rattle.ground.specs.Limits.{limits}
 use Rattle.reading.specs.InTurn.{Kind, Outcome, AllRead, read_all}
-use Rattle.ground.specs.Padded.{padded}
 use Rattle.reading.specs.declared.item.Table.{Table}
 use Rattle.ground.specs.declared.refusal.Refusal.{Refusal}
 use Rattle.rules.specs.Formula.{Formula, horizon}
@@ -13,7 +13,6 @@ use Rattle.rules.specs.Items.{row_of_item, item_of, apply}
 use Rattle.rules.specs.declared.item.Item.{Item}
 use Rattle.rules.specs.declared.item.ItemRow.{ItemRow}
 use Rattle.rules.specs.declared.check.RuleCounts.{RuleCounts}
-use Rattle.rules.specs.declared.check.CheckedItem.{CheckedItem}
 use Rattle.rules.specs.declared.load.Rule.{Rule}
 use Rattle.rules.specs.declared.load.Loaded.{Loaded}
 
@@ -63,13 +62,12 @@ unfoldable pub rule_too_large : RuleCounts → Bool
 rule_too_large c = ltb limits.items c.items || (ltb limits.timed c.timed || ltb limits.lower c.lower)
 
 -- The item at a place, by its row, after items that are counted: 5, 6, 7, 8 in turn
-unfoldable pub check_item : RuleCounts → ℕ → ItemRow → CheckedItem
+unfoldable pub check_item : RuleCounts → ℕ → ItemRow → Result RuleCounts Refusal
 check_item c at row =
-    cond (ltb limits.flag row.flag) (CheckedItem.Refused (Refusal.FlagTooLarge at))
-    (cond (bad_window row.lower row.upper) (CheckedItem.Refused (Refusal.BadWindow at))
-    (cond (ltb c.depth row.operands) (CheckedItem.Refused (Refusal.TooFewOperands at))
-    (cond (rule_too_large (rule_counted c row)) (CheckedItem.Refused (Refusal.RuleTooLarge at))
-    (CheckedItem.Next (rule_counted c row)))))
+    cond (ltb limits.flag row.flag) (Err (Refusal.FlagTooLarge at))
+    (cond (bad_window row.lower row.upper) (Err (Refusal.BadWindow at))
+    (cond (ltb c.depth row.operands) (Err (Refusal.TooFewOperands at))
+    (cond (rule_too_large (rule_counted c row)) (Err (Refusal.RuleTooLarge at)) (Ok (rule_counted c row)))))
 
 -- What reading a rule gives: its items and the formula that they make, or the refusal
 pub data Reading : Type 0 where
@@ -83,9 +81,9 @@ one_value n is (f ∷ []) = accepted is f
 one_value n is (f ∷ g ∷ st) = refused (Refusal.NotOneValue n)
 
 -- What becomes of an item that is checked
-abbrev pub item_outcome : CheckedItem → Outcome
-item_outcome (CheckedItem.Next c) = Outcome.fine
-item_outcome (CheckedItem.Refused r) = Outcome.bad r
+abbrev pub item_outcome : Result RuleCounts Refusal → Outcome
+item_outcome (Ok c) = Outcome.fine
+item_outcome (Err r) = Outcome.bad r
 
 -- Rules as a kind of items, checked by what is counted of the items before
 abbrev pub rule_kind : Kind Item
@@ -105,27 +103,20 @@ at_end n (AllRead.refused r) = refused r
 unfoldable pub read_rule : List ℕ → Reading
 read_rule bytes = at_end (length bytes) (read_all rule_kind bytes)
 
--- What loading answers: the number of items and the horizon, or the refusal
-abbrev pub loaded_of : Reading → Loaded
-loaded_of (accepted is f) = Loaded.Accepted (length is) (horizon f)
-loaded_of (refused r) = Loaded.Refused r
+-- What loading tells: the number of items and the horizon, or the refusal
+abbrev pub loaded_of : Reading → Result Loaded Refusal
+loaded_of (accepted is f) = Ok (record { items = length is; horizon = horizon f })
+loaded_of (refused r) = Err r
 
--- The items of an accepted rule
-abbrev pub items_of : Reading → Items
-items_of (accepted is f) = is
-items_of (refused r) = []
+-- The items of a rule in an array, with true behind them
+unfoldable pub in_array : Items → List Item
+in_array is = is ++ replicate (limits.items - length is) Item.True
 
--- One of an item's numbers, for each of some items, in an array with zeros behind
-abbrev pub column : (ItemRow → ℕ) → Items → List ℕ
-column f is = padded limits.items (map (λ i. f (row_of_item i)) is)
+-- What is kept of a rule that is accepted: its items, how many they are, and its horizon
+unfoldable pub rule_kept : Items → Formula → Rule
+rule_kept is f = record { items = in_array is; count = length is; horizon = horizon f }
 
--- What loading keeps of a rule: the answer, and the items by their numbers
-unfoldable pub rule_of : Reading → Rule
-rule_of read =
-    record {
-      loaded = loaded_of read;
-      codes = column (λ r. r.code) (items_of read);
-      flags = column (λ r. r.flag) (items_of read);
-      lowers = column (λ r. r.lower) (items_of read);
-      uppers = column (λ r. r.upper) (items_of read);
-    }
+-- What loading keeps of a rule, or the refusal
+abbrev pub rule_of : Reading → Result Rule Refusal
+rule_of (accepted is f) = Ok (rule_kept is f)
+rule_of (refused r) = Err r

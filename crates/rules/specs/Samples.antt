@@ -1,12 +1,11 @@
 -- Document 01's samples that are marked to be proved, as far as they concern loading and meaning: one table, and what
 -- it is for a row to be right.
-use Rattle.std.specs.Prelude.{◌≡◌, Bool, true, false, List, [], ◌∷◌, ℕ}
+use Rattle.std.specs.Prelude.{◌≡◌, Bool, true, false, Ok, Err, List, [], ◌∷◌, ℕ}
 use Rattle.ground.specs.declared.refusal.Refusal.{Refusal}
 use Rattle.rules.specs.Formula.{Formula}
 use Rattle.rules.specs.Loading.{Reading, accepted, refused, read_rule, loaded_of}
 use Rattle.ground.specs.Frames.{Clip}
 use Rattle.rules.specs.Meaning.{holds}
-use Rattle.rules.specs.declared.load.Loaded.{Loaded}
 
 -- A row: a rule and its items and horizon, a rule and its refusal, or a rule, a clip and for each frame whether the
 -- clip from it satisfies the rule
@@ -27,8 +26,8 @@ verdicts_read (refused r) c = []
 
 -- A row is right by the definitions that the contracts cite
 abbrev pub LoadedRight : Sample → Type 0
-LoadedRight (accepts rule items horizon) = loaded_of (read_rule rule) ≡ Loaded.Accepted items horizon
-LoadedRight (refuses rule refusal) = loaded_of (read_rule rule) ≡ Loaded.Refused refusal
+LoadedRight (accepts rule items horizon) = loaded_of (read_rule rule) ≡ Ok (record { items = items; horizon = horizon })
+LoadedRight (refuses rule refusal) = loaded_of (read_rule rule) ≡ Err refusal
 LoadedRight (each_frame rule clip bits) = verdicts_read (read_rule rule) clip ≡ bits
 
 -- The table

@@ -3,7 +3,7 @@ ghost use Rattle.std.specs.Prelude.{◌≡◌};
 ghost use Rattle.rules.specs.Items.{item_of, item_row, row_of_item};
 
 // An item: operands stand before operators, and of two operands the left comes first.
-#[derive(Clone, Copy)]
+#[derive(Clone, Copy, Debug, PartialEq, Eq)]
 pub enum Item {
     True,
     False,
@@ -17,9 +17,9 @@ pub enum Item {
     Globally(u16, u16),
 }
 
-// What document 01 says of an item in numbers: its code byte, its operands, whether it is timed (1 or 0), its flag, its
-// bounds. What it lacks is 0.
-#[derive(Clone, Copy)]
+// What document 01 says of an item in numbers: its code byte, its operands, whether it is timed (1 or 0, as timed items
+// are counted by adding them up), its flag, its bounds. What it lacks is 0.
+#[derive(Clone, Copy, Debug, PartialEq, Eq)]
 pub struct ItemRow {
     pub code: u8,
     pub operands: usize,
@@ -29,34 +29,31 @@ pub struct ItemRow {
     pub upper: u16,
 }
 
-fn new_row(code: u8, operands: usize, timed: u16, flag: u16, lower: u16, upper: u16) -> ItemRow
-    ensures { result ≡ item_row code operands timed flag lower upper }
-{
-    ItemRow {
-        code,
-        operands,
-        timed,
-        flag,
-        lower,
-        upper,
+impl ItemRow {
+    // The numbers of an item that has no flag and is not timed.
+    fn plain(code: u8, operands: usize) -> ItemRow
+        ensures { result ≡ item_row code operands 0 0 0 0 }
+    {
+        ItemRow {
+            code,
+            operands,
+            timed: 0,
+            flag: 0,
+            lower: 0,
+            upper: 0,
+        }
     }
-}
 
-// The numbers of the item of a code byte, with its flag and its bounds. The reader knows only these ten code bytes.
-pub(crate) fn row_of_code(code: u8, flag: u16, lower: u16, upper: u16) -> ItemRow
-    ensures { result ≡ row_of_item (item_of code flag lower upper) }
-{
-    match code {
-        0x10 => new_row(0x10, 0, 0, 0, 0, 0),
-        0x11 => new_row(0x11, 0, 0, 0, 0, 0),
-        0x12 => new_row(0x12, 0, 0, flag, 0, 0),
-        0x20 => new_row(0x20, 1, 0, 0, 0, 0),
-        0x21 => new_row(0x21, 2, 0, 0, 0, 0),
-        0x22 => new_row(0x22, 2, 0, 0, 0, 0),
-        0x30 => new_row(0x30, 2, 1, 0, lower, upper),
-        0x31 => new_row(0x31, 2, 1, 0, lower, upper),
-        0x32 => new_row(0x32, 1, 1, 0, lower, upper),
-        _ => new_row(0x33, 1, 1, 0, lower, upper),
+    // The numbers of a timed item.
+    fn timed(code: u8, operands: usize, lower: u16, upper: u16) -> ItemRow
+        ensures { result ≡ item_row code operands 1 0 lower upper }
+    {
+        ItemRow {
+            timed: 1,
+            lower,
+            upper,
+            ..ItemRow::plain(code, operands)
+        }
     }
 }
 
@@ -65,20 +62,24 @@ pub fn row_of(item: Item) -> ItemRow
     ensures { result ≡ row_of_item item }
 {
     match item {
-        Item::True => row_of_code(0x10, 0, 0, 0),
-        Item::False => row_of_code(0x11, 0, 0, 0),
-        Item::Flag(k) => row_of_code(0x12, k, 0, 0),
-        Item::Not => row_of_code(0x20, 0, 0, 0),
-        Item::And => row_of_code(0x21, 0, 0, 0),
-        Item::Or => row_of_code(0x22, 0, 0, 0),
-        Item::Until(a, b) => row_of_code(0x30, 0, a, b),
-        Item::Release(a, b) => row_of_code(0x31, 0, a, b),
-        Item::Eventually(a, b) => row_of_code(0x32, 0, a, b),
-        Item::Globally(a, b) => row_of_code(0x33, 0, a, b),
+        Item::True => ItemRow::plain(0x10, 0),
+        Item::False => ItemRow::plain(0x11, 0),
+        Item::Flag(flag) => ItemRow {
+            flag,
+            ..ItemRow::plain(0x12, 0)
+        },
+        Item::Not => ItemRow::plain(0x20, 1),
+        Item::And => ItemRow::plain(0x21, 2),
+        Item::Or => ItemRow::plain(0x22, 2),
+        Item::Until(lower, upper) => ItemRow::timed(0x30, 2, lower, upper),
+        Item::Release(lower, upper) => ItemRow::timed(0x31, 2, lower, upper),
+        Item::Eventually(lower, upper) => ItemRow::timed(0x32, 1, lower, upper),
+        Item::Globally(lower, upper) => ItemRow::timed(0x33, 1, lower, upper),
     }
 }
 
 // The item of a code byte, with its flag and its bounds. The reader knows only these ten code bytes.
+#[tactic(auto, unfolding(crate::specs::Items::item_of))]
 pub fn item_of(code: u8, flag: u16, lower: u16, upper: u16) -> Item
     ensures { result ≡ item_of code flag lower upper }
 {

@@ -1,108 +1,90 @@
-// Loading a rule: each item in turn is read, checked, and kept by the numbers that the layers above need of it.
-ghost use Rattle.std.specs.Prelude.{◌≡◌};
-ghost use Rattle.rules.specs.Loading.{Items, stack_of, refused, one_value, read_rule, loaded_of, rule_of};
-ghost use Rattle.rules.specs.Inner.Gathered.{Gathers, rule_with};
+// Loading a rule: each item in turn is read, checked, and kept for the layers above. What it shares with loading code
+// is the reader.
+ghost use Rattle.std.specs.Prelude.{◌≡◌, ◌≤◌, length};
+ghost use Rattle.rules.specs.Loading.{Items, stack_of, one_value, read_rule, loaded_of, rule_of};
+ghost use Rattle.rules.specs.Loaded.{items_in, loaded_in};
+ghost use Rattle.rules.specs.Inner.Gathered.{Gathers};
 
-use crate::check::{CheckedItem, check};
 use crate::gather::Gathered;
-use crate::item::row_of_code;
+use crate::item::{Item, item_of};
 use ground::limits::MOST_ITEMS;
 use ground::refusal::Refusal;
-use reading::item::{Read, Table};
-use reading::reader::read_item;
+use reading::item::Table;
+use reading::reader::Reader;
 
-// What loading answers: how many items and which horizon, or the refusal.
-#[derive(Clone, Copy)]
-pub enum Loaded {
-    Accepted { items: usize, horizon: usize },
-    Refused(Refusal),
+// What is told of a rule that is accepted: how many items it has, and its horizon.
+#[derive(Clone, Copy, Debug, PartialEq, Eq)]
+pub struct Loaded {
+    pub items: usize,
+    pub horizon: usize,
 }
 
-// A rule that was loaded: the answer and, if it is accepted, its items in order by their numbers (those of `row_of`),
-// with zeros behind.
-#[derive(Clone, Copy)]
+// A rule that is accepted: its items in order, with true behind them, how many they are, and its horizon. The library
+// has no heap, so that the items stand in an array.
+#[derive(Clone, Copy, Debug, PartialEq, Eq)]
 pub struct Rule {
-    pub loaded: Loaded,
-    pub codes: [u8; MOST_ITEMS],
-    pub flags: [u16; MOST_ITEMS],
-    pub lowers: [u16; MOST_ITEMS],
-    pub uppers: [u16; MOST_ITEMS],
+    pub items: [Item; MOST_ITEMS],
+    pub count: usize,
+    pub horizon: usize,
 }
 
-// What is gathered, with an answer.
-fn rule_with(gathered: Gathered, loaded: Loaded) -> Rule
-    ensures { result ≡ rule_with gathered loaded }
-{
-    let codes = gathered.codes;
-    let flags = gathered.flags;
-    let lowers = gathered.lowers;
-    let uppers = gathered.uppers;
-    Rule {
-        loaded,
-        codes,
-        flags,
-        lowers,
-        uppers,
+impl Rule {
+    // The items in order.
+    #[tactic(auto, unfolding(crate::specs::Loaded::items_in))]
+    pub fn items(&self) -> &[Item]
+        ensures { result.now ≡ items_in self.now self.now.count }
+    {
+        &self.items[..self.count.min(MOST_ITEMS)]
     }
-}
 
-// A rule that is refused.
-fn refused(refusal: Refusal) -> Rule
-    ensures { result ≡ rule_of (refused refusal) }
-{
-    rule_with(Gathered::new(), Loaded::Refused(refusal))
-}
-
-// The end of a rule of so many bytes.
-fn at_end(gathered: Gathered, bytes: usize) -> Rule
-    requires { (is : Items) × Gathers gathered is }
-    ensures { (is : Items) → Gathers gathered is → result ≡ rule_of (one_value bytes is (stack_of is)) }
-{
-    if gathered.counts.depth != 1 {
-        return refused(Refusal::NotOneValue(bytes));
-    }
-    let horizon = gathered.horizons[0] as usize;
-    let items = gathered.counts.items;
-    rule_with(gathered, Loaded::Accepted { items, horizon })
-}
-
-// Loads a rule: its answer and its items.
-pub fn decode(bytes: &[u8]) -> Rule
-    ensures { result ≡ rule_of (read_rule bytes.now) }
-{
-    if bytes.len() == 0 {
-        return refused(Refusal::Empty);
-    }
-    let mut gathered = Gathered::new();
-    let mut at = 0;
-    loop {
-        match read_item(Table::Rule, bytes, at) {
-            Read::Item {
-                code,
-                first,
-                second,
-                third: _,
-                next,
-            } => {
-                let row = row_of_code(code, first, first, second);
-                match check(gathered.counts, at, row) {
-                    CheckedItem::Next(counts) => {
-                        gathered = gathered.with(row, counts);
-                        at = next;
-                    }
-                    CheckedItem::Refused(refusal) => return refused(refusal),
-                }
-            }
-            Read::End => return at_end(gathered, bytes.len()),
-            Read::Refused(refusal) => return refused(refusal),
+    // What is told of the rule.
+    #[tactic(auto, unfolding(crate::specs::Loaded::loaded_in))]
+    pub fn loaded(&self) -> Loaded
+        ensures { result ≡ loaded_in self.now }
+    {
+        Loaded {
+            items: self.count,
+            horizon: self.horizon,
         }
     }
 }
 
+// The end of a rule of so many bytes: its items make one value, or it is refused.
+fn at_end(gathered: &Gathered, bytes: usize) -> Result<Rule, Refusal>
+    requires { (is : Items) × Gathers gathered.now is }
+    ensures { (is : Items) → Gathers gathered.now is → result ≡ rule_of (one_value bytes is (stack_of is)) }
+{
+    if gathered.counts.depth != 1 {
+        return Err(Refusal::NotOneValue(bytes));
+    }
+    Ok(Rule {
+        items: gathered.items,
+        count: gathered.counts.items,
+        horizon: usize::from(gathered.horizons[0]),
+    })
+}
+
+// Loads a rule: what is kept of it, or the refusal.
+pub fn decode(bytes: &[u8]) -> Result<Rule, Refusal>
+    ensures { result ≡ rule_of (read_rule bytes.now) }
+{
+    if bytes.is_empty() {
+        return Err(Refusal::Empty);
+    }
+    let mut gathered = Gathered::new();
+    let mut reader = Reader::new(Table::Rule, bytes);
+    while let Some(read) = reader.item()? {
+        let item = item_of(read.code, read.first, read.first, read.second);
+        gathered.push(item, reader.at)?;
+        reader.pass(read);
+    }
+    at_end(&gathered, bytes.len())
+}
+
 // Loads a rule: how many items it has and its horizon, or the refusal.
-pub fn load(bytes: &[u8]) -> Loaded
+pub fn load(bytes: &[u8]) -> Result<Loaded, Refusal>
     ensures { result ≡ loaded_of (read_rule bytes.now) }
 {
-    let rule = decode(bytes);
-    rule.loaded
+    let rule = decode(bytes)?;
+    Ok(rule.loaded())
 }

@@ -2,14 +2,19 @@
 -- room for just the states that it counts. The answer is right by that code's output, and so by the rule's meaning; it stays right with more room; and no other
 -- one is right.
 use mathlib.Core.Path.{◌≡◌, refl, sym, ap, ◌∙◌}
-use mathlib.Core.Bool.{Bool, true, false, beq, ◌&&◌, false≢true, and-eq-true_iff}
+use mathlib.Core.Bool.{Bool, true, false, beq, ◌&&◌, false≢true}
 use mathlib.Core.List.{List, [], ◌∷◌}
 use mathlib.Core.Logic.{◌↔◌}
 use Prim.Native.Nat.{ℕ, zero, suc, ◌≤◌}
 use native.Mathlib.Omega.{arith}
-use borrow.Author.Tests.{ltb-true, eqb-true, eq-eqb}
+use borrow.Author.Tests.{ltb-true}
 use lib.Dec.{eqb, ltb}
 use lib.ListN.{length, drop}
+use Rattle.std.proofs.Common.{Decides}
+use Rattle.std.proofs.lemmas.Bool.{and_parts, and_from}
+use Rattle.std.proofs.lemmas.Bool.Decides.{Decides-eqb}
+use Rattle.std.proofs.lemmas.Slice.Eq.{slice_eq-Decides}
+use Rattle.std.specs.Cmp.Lexicographic.{pointwise}
 use Rattle.ground.specs.Buffers.{byte_values, AllBytes}
 use Rattle.ground.specs.Each.{Each}
 use Rattle.ground.proofs.Each.{each_then}
@@ -44,49 +49,28 @@ use Rattle.samples.specs.Samples.{Sample, searches, refuses, each_frame, emits, 
 use Rattle.finder.proofs.Turns.{output_step}
 use Rattle.finder.proofs.Answered.{hits_holds, answers_said}
 
--- Whether two lists are the same, by a test of their elements
-module _ {A : Type 0} (test : A → A → Bool) where
-  abbrev same : List A → List A → Bool
-  same [] [] = true
-  same [] (y ∷ ys) = false
-  same (x ∷ xs) [] = false
-  same (x ∷ xs) (y ∷ ys) = test x y && same xs ys
-
-  same_sound : ((x y : A) → test x y ≡ true → x ≡ y) → (xs ys : List A) → same xs ys ≡ true → xs ≡ ys
-  same_sound sound [] [] e = refl
-  same_sound sound [] (y ∷ ys) e = absurd (false≢true e)
-  same_sound sound (x ∷ xs) [] e = absurd (false≢true e)
-  same_sound sound (x ∷ xs) (y ∷ ys) e =
-      let (head, tail) = (and-eq-true_iff (test x y) (same xs ys)).0 e in
-      cc (sound x y head, same_sound sound xs ys tail)
-
-  same_finds : ((x : A) → test x x ≡ true) → (xs : List A) → same xs xs ≡ true
-  same_finds finds [] = refl
-  same_finds finds (x ∷ xs) = rw (finds x) (same_finds finds xs)
-
-bit_sound : (a b : Bool) → beq a b ≡ true → a ≡ b
-bit_sound true true e = refl
-bit_sound true false e = sym e
-bit_sound false true e = e
-bit_sound false false e = refl
-
-bit_finds : (a : Bool) → beq a a ≡ true
-bit_finds true = refl
-bit_finds false = refl
+-- Two bits are the same if the test says so
+Decides-beq : (a b : Bool) → Decides (beq a b) (a ≡ b)
+Decides-beq true true = (λ e. refl, λ e. refl)
+Decides-beq true false = (sym, λ e. sym e)
+Decides-beq false true = (λ e. e, λ e. e)
+Decides-beq false false = (λ e. refl, λ e. refl)
 
 -- Whether registers are the same: all counters and all delay bits
 abbrev same_registers : Registers → Registers → Bool
-same_registers r s = same eqb r.counters s.counters && same beq r.delays s.delays
+same_registers r s = pointwise eqb r.counters s.counters && pointwise beq r.delays s.delays
 
 registers_sound : (r s : Registers) → same_registers r s ≡ true → r ≡ s
 registers_sound r s e =
-    let (counters, delays) = (and-eq-true_iff (same eqb r.counters s.counters) (same beq r.delays s.delays)).0 e in
-    let c = same_sound eqb eqb-true r.counters s.counters counters in
-    let d = same_sound beq bit_sound r.delays s.delays delays in
+    let (counters, delays) = and_parts (pointwise eqb r.counters s.counters) (pointwise beq r.delays s.delays) e in
+    let c = (slice_eq-Decides Decides-eqb r.counters s.counters _ refl).0 counters in
+    let d = (slice_eq-Decides Decides-beq r.delays s.delays _ refl).0 delays in
     λ i. record { counters = c i; delays = d i }
 
 registers_finds : (r : Registers) → same_registers r r ≡ true
-registers_finds r = rw (same_finds eqb (λ n. eq-eqb n n refl) r.counters) (same_finds beq bit_finds r.delays)
+registers_finds r =
+    and_from (pointwise eqb r.counters r.counters) (pointwise beq r.delays r.delays) ((slice_eq-Decides Decides-eqb r.counters r.counters _ refl).1 refl)
+    ((slice_eq-Decides Decides-beq r.delays r.delays _ refl).1 refl)
 
 -- The machine that the model runs: the registers of code, and its output
 abbrev machine_of : Code → Machine Registers
@@ -118,8 +102,8 @@ are_bytes (x ∷ xs) = ltb x byte_values && are_bytes xs
 
 are_bytes_lem : (xs : List ℕ) → are_bytes xs ≡ true → AllBytes xs
 are_bytes_lem [] e i = omega arith
-are_bytes_lem (x ∷ xs) e zero = ltb-true x byte_values ((and-eq-true_iff (ltb x byte_values) (are_bytes xs)).0 e).0
-are_bytes_lem (x ∷ xs) e (suc i) = are_bytes_lem xs ((and-eq-true_iff (ltb x byte_values) (are_bytes xs)).0 e).1 i
+are_bytes_lem (x ∷ xs) e zero = ltb-true x byte_values (and_parts (ltb x byte_values) (are_bytes xs) e).0
+are_bytes_lem (x ∷ xs) e (suc i) = are_bytes_lem xs (and_parts (ltb x byte_values) (are_bytes xs) e).1 i
 
 -- An accepted rule
 module _ (rule : List ℕ) (is : Items) (f : Formula) (bytes : are_bytes rule ≡ true) (reads : read_rule rule ≡ accepted is f) where
@@ -178,7 +162,7 @@ right (searches rule h a) e = of (read_rule rule) refl e
   where
     of : (read : Reading) → read_rule rule ≡ read → computed rule read a ≡ (true, h, ended a) → FoundRight (searches rule h a)
     of (accepted is f) reads e =
-        let (bytes, some) = (and-eq-true_iff (are_bytes rule) (ltb 0 (states_of (found_of a)))).0 (ap (λ p. p.0) e) in
+        let (bytes, some) = and_parts (are_bytes rule) (ltb 0 (states_of (found_of a))) (ap (λ p. p.0) e) in
         searches_right rule is f bytes reads h moves a (ap (λ p. p.1) e) (ltb-true 0 (states_of (found_of a)) some) (ap (λ p. p.2) e)
     of (refused r) reads e = absurd (false≢true (ap (λ p. p.0) e))
 right (refuses rule refusal) e = λ table witness r table' witness' says. let given = rw e at says in (given.own_answer, given.own_table, given.own_witness)

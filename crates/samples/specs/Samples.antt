@@ -1,11 +1,10 @@
 -- Document 01's samples that are marked to be proved, all of them: "Marked * are proved, together, as one statement
 -- over one table." The table, and what it is for a row to be right. The last search is not the document's: its answer
 -- needs one record, though a frame byte before the answer's leads to a second state.
-use Rattle.std.specs.Prelude.{◌≡◌, List, [], ◌∷◌, ℕ, ◌+◌, ◌≤◌, length, replicate}
+use Rattle.std.specs.Prelude.{◌≡◌, List, [], ◌∷◌, ℕ, ◌+◌, ◌≤◌, length, replicate, Result, Ok, Err}
 use Rattle.ground.specs.Frames.{Clip}
 use Rattle.ground.specs.declared.refusal.Refusal.{Refusal}
 use Rattle.rules.specs.Loading.{read_rule, loaded_of}
-use Rattle.rules.specs.declared.load.Loaded.{Loaded}
 use Rattle.emitter.specs.Samples as emitter
 use Rattle.paths.specs.Answers.{Answer, met, none}
 use Rattle.finder.specs.Search.{states_of, found_of, witness_after, SearchSays}
@@ -24,14 +23,15 @@ pub data Sample : Type 0 where
 -- states and every witness buffer of horizon + 1 bytes or more, a refusal for all
 abbrev pub FoundRight : Sample → Type 0
 FoundRight (searches rule horizon answer) =
-    ((n : ℕ) × (loaded_of (read_rule rule) ≡ Loaded.Accepted n horizon))
+    ((n : ℕ) × (loaded_of (read_rule rule) ≡ Ok (record { items = n; horizon = horizon })))
     × ((table witness : List ℕ) → states_of (found_of answer) ≤ room_of table → horizon + 1 ≤ length witness
-    → (r : Found) (table' witness' : List ℕ) → SearchSays (read_rule rule) table witness r table' witness'
+    → (r : Result Found Refusal) (table' witness' : List ℕ)
+    → SearchSays (read_rule rule) table witness r table' witness'
     → (r ≡ found_of answer) × (table' ≡ replicate (length table) 0) × (witness' ≡ witness_after answer witness))
 FoundRight (refuses rule refusal) =
-    (table witness : List ℕ) (r : Found) (table' witness' : List ℕ)
+    (table witness : List ℕ) (r : Result Found Refusal) (table' witness' : List ℕ)
     → SearchSays (read_rule rule) table witness r table' witness'
-    → (r ≡ Found.Refused refusal) × (table' ≡ table) × (witness' ≡ witness)
+    → (r ≡ Err refusal) × (table' ≡ table) × (witness' ≡ witness)
 FoundRight (each_frame rule clip verdicts) = emitter.EmittedRight (emitter.each_frame rule clip verdicts)
 FoundRight (emits rule code) = emitter.EmittedRight (emitter.emits rule code)
 

@@ -14,11 +14,12 @@ use Rattle.ground.specs.Buffers.{over}
 use Rattle.ground.specs.Frames.{Clip}
 use Rattle.ground.specs.Limits.{limits}
 use Rattle.sequencer.specs.Bits.{Wire, Counter, none, count, counter, later, wire, wire_of, wires_from, output}
-use Rattle.code.specs.Code.{Instruction, One, Flag, Nand, Reach, Later, Code}
+use Rattle.code.specs.declared.instruction.Instruction.{Instruction}
+use Rattle.code.specs.declared.instruction.Instruction.TheVariants.{One, Flag, Nand, Reach, Later}
+use Rattle.code.specs.Code.{Code}
 use Rattle.code.specs.Loading.{reach_of, distance_of, reaches_in, distance_in}
-use Rattle.code.specs.Inner.Rows.{row_of_instruction}
 use Rattle.sequencer.specs.Registers.{Working, counter_of, kept, fresh_registers, start, shifted, execute, executed, registers_of, output_of}
-use Rattle.code.specs.Good.{GoodCode, HasLines}
+use Rattle.code.specs.Good.{GoodCode, HasLine, HasLines}
 use Rattle.sequencer.specs.After.{window, own_counter, own_delays, counters_of, delays_of, registers_after, steps_over}
 use Rattle.code.proofs.Counting.{good_counters, good_delays, good_lines}
 
@@ -106,7 +107,7 @@ module _ (x : ℕ) (c : Clip) where
       record { bits = map (λ w. w (x ∷ c)) ws; counters = counters; used = used; delays = delays; taken = taken }
 
   -- One instruction, behind those before it
-  one : (ws : List Wire) (i : Instruction) → (row_of_instruction i).later ≤ distance_of i → (A R : List ℕ) (D S : List Bool)
+  one : (ws : List Wire) (i : Instruction) → HasLine i → (A R : List ℕ) (D S : List Bool)
       → execute x (amid ws (A ++ (own_counter ws i c ++ R)) (length A) (D ++ (own_delays ws i c ++ S)) (length D)) i
       ≡ amid (ws ++ wire_of ws i ∷ []) (A ++ (own_counter ws i (x ∷ c) ++ R)) (length A + reach_of i)
       (D ++ (own_delays ws i (x ∷ c) ++ S)) (length D + distance_of i)

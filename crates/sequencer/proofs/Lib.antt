@@ -3,7 +3,6 @@ pub mod Counters
 pub mod Wires
 pub mod After
 pub mod Through
-pub mod Stepping
 pub mod Running
 pub mod Next
 pub mod Shifting

@@ -1,26 +1,33 @@
--- One frame through code that is loaded, instruction by instruction. What stands in the lent arrays behind n instructions is what a step has made of
--- them; each instruction finds its operands written and its registers there, as it is fine behind those before it, and leads on by `execute`.
+-- One frame through code that is loaded, instruction by instruction. What stands in the sequencer behind n instructions is what a step has made of them;
+-- each instruction finds its operands written and its registers there, as it is fine behind those before it, and leads on by `execute`.
 use mathlib.Core.Path.{◌≡◌, refl, sym, ap, ◌∙◌}
 use mathlib.Core.Bool.{Bool, true, false, not, ◌&&◌}
 use mathlib.Core.List.{List, [], ◌∷◌, ◌++◌}
 use Prim.Native.Nat.{ℕ, suc, ◌+◌, ◌-◌, ◌≤◌, ◌<◌}
+use native.Mathlib.Nat.{add-zero}
 use native.Mathlib.Numerals.{add-one}
 use native.Mathlib.Omega.{arith}
 use borrow.Author.Tests.{ne_eqb}
+use borrow.Rule.Slice.PartMut.{put_mid, mid_of}
 use lib.Dec.{eqb}
-use lib.ListN.{length, get_or, take, drop, set, length-take, take-append-drop}
-use lib.Seq.{take-suc-set, drop-set-lt, get_or-take, drop-drop}
+use lib.ListN.{length, get_or, take, drop, set, length-set, length-take, take-append-drop}
+use lib.Seq.{take-suc, take_all, take-suc-set, drop-set-lt, get_or-take, get_or-drop, drop-drop}
 use Rattle.ground.specs.Frames.{has_flag}
-use Rattle.code.specs.Code.{Instruction, One, Flag, Nand, Reach, Later, Code}
+use Rattle.code.specs.declared.instruction.Instruction.{Instruction}
+use Rattle.code.specs.declared.instruction.Instruction.TheVariants.{One, Flag, Nand, Reach, Later}
+use Rattle.code.specs.Code.{Code}
+use Rattle.ground.specs.Limits.{limits}
 use Rattle.code.specs.Loading.{reach_of, distance_of, reaches_in, distance_in}
-use Rattle.code.specs.Programs.{instruction_at, code_in, count_in, code_as}
+use Rattle.code.specs.Good.{FitsBehind}
+use Rattle.code.specs.Programs.{Sound}
 use Rattle.code.proofs.Counting.{good_instructions}
-use Rattle.code.proofs.Flat.{code_length, fine_at}
 use Rattle.sequencer.specs.Bits.{Counter, none, count, next, is_on}
-use Rattle.sequencer.specs.Registers.{Working, start, shifted, execute, executed, counter_of, kept}
+use Rattle.sequencer.specs.Registers.{Working, start, execute, executed, counter_of, kept}
 use Rattle.sequencer.specs.Stepping.{advanced_by}
-use Rattle.sequencer.specs.Inner.Through.{Lent, lent, stands_at, Served, CanExecute, Executes, Fits, Leaves}
+use Rattle.sequencer.specs.Inner.Through.{stands_at, Served, Executes, Leaves}
+use Rattle.sequencer.specs.declared.frame.Sequencer.{Sequencer}
 use Rattle.sequencer.specs.declared.frame.Taken.{Taken}
+use Rattle.sequencer.proofs.Shifting.{shifted_part}
 
 -- One instruction
 
@@ -29,58 +36,45 @@ is_on_lem : (m : Counter) → not (eqb (kept m) 0) ≡ is_on m
 is_on_lem none = refl
 is_on_lem (count n) = rw (ne_eqb (suc n) 0 (omega arith))
 
-module _ (frame n : ℕ) (t : Taken) (counters : List ℕ) (delays bits : List Bool) where
-  abbrev before : Lent
-  before = lent counters delays bits
-
-  -- A bit written behind n others is one more, and those behind it stay
-  executes : (i : Instruction) → Served i n t before → (b : Bool) (t' : Taken) (counters' : List ℕ) (delays' : List Bool)
-      → execute frame (stands_at n t before) i
-      ≡ record { bits = take n bits ++ b ∷ []; counters = counters'; used = t'.counters; delays = delays'; taken = t'.delays }
-      → Executes i frame n t t' before (lent counters' delays' (set bits n b))
-  executes i f b t' counters' delays' e =
-      let wrote : take (n + 1) (set bits n b) ≡ take n bits ++ b ∷ [] = rw (add-one n) (take-suc-set bits n b f.place) in
-      record { stands = rw wrote (sym e); rest = drop-set-lt (n + 1) bits n b (omega arith) }
-
-  pub executes_one : Served One n t before → Executes One frame n t t before (lent counters delays (set bits n true))
+module _ (frame : ℕ) (t : Taken) (s : Sequencer) where
+  pub executes_one : Executes One frame t t s s true
   unfolding execute
-  executes_one f = executes One f true t counters delays refl
+  executes_one = record { stands = λ n h. refl; bits = refl }
 
-  pub executes_flag : (k : ℕ) → Served (Flag k) n t before → (b : Bool) → b ≡ has_flag k frame
-      → Executes (Flag k) frame n t t before (lent counters delays (set bits n b))
+  pub executes_flag : (k : ℕ) (b : Bool) → b ≡ has_flag k frame → Executes (Flag k) frame t t s s b
   unfolding execute
-  executes_flag k f b own = executes (Flag k) f b t counters delays (rw own)
-
-  -- a bit that is written is read
-  bit_read : (k : ℕ) → k < n → get_or (take n bits) k false ≡ get_or bits k false
-  bit_read k h = get_or-take n bits k false h
+  executes_flag k b own = record { stands = λ n h. rw own; bits = refl }
 
   module _ (i j : ℕ) where
-    pub executes_nand : Served (Nand i j) n t before → (b : Bool) → b ≡ not (get_or bits i false && get_or bits j false)
-        → Executes (Nand i j) frame n t t before (lent counters delays (set bits n b))
+    pub executes_nand : (b : Bool) → b ≡ not (get_or s.bits i false && get_or s.bits j false) → Executes (Nand i j) frame t t s s b
     unfolding execute
-    executes_nand f b own =
-        executes (Nand i j) f b t counters delays (rw (own, bit_read i (omega (arith, f.earlier)), bit_read j (omega (arith, f.earlier))))
+    executes_nand b own =
+        record { stands = λ n h. rw (own, get_or-take n s.bits i false h.0, get_or-take n s.bits j false h.1); bits = refl }
 
-    pub executes_reach : (w : ℕ) → Served (Reach i j w) n t before
-        → (p m : ℕ) → p ≡ t.counters → m ≡ kept (next w (get_or bits i false) (get_or bits j false) (counter_of (get_or counters p 0)))
-        → Executes (Reach i j w) frame n t (record { counters = p + 1; delays = t.delays }) before
-        (lent (set counters p m) delays (set bits n (not (eqb m 0))))
+    pub executes_reach : (w m : ℕ) → m ≡ kept (next w (get_or s.bits i false) (get_or s.bits j false) (counter_of (get_or s.registers.counters t.counters 0)))
+        → Executes (Reach i j w) frame t (record t { counters = t.counters + 1 }) s
+        (record s { registers = record s.registers { counters = set s.registers.counters t.counters m } }) (not (eqb m 0))
     unfolding execute
-    executes_reach w f p m first own =
-        let q = next w (get_or bits i false) (get_or bits j false) (counter_of (get_or counters t.counters 0)) in
-        let is : m ≡ kept q = rw first at own in
-        let on : not (eqb m 0) ≡ is_on q = rw is (is_on_lem q) in
-        rw first
-        (executes (Reach i j w) f (not (eqb m 0)) _ (set counters t.counters m) delays
-        (rw (on, is, bit_read i (omega (arith, f.earlier)), bit_read j (omega (arith, f.earlier)))))
+    executes_reach w m own =
+        let q = next w (get_or s.bits i false) (get_or s.bits j false) (counter_of (get_or s.registers.counters t.counters 0)) in
+        let on : not (eqb m 0) ≡ is_on q = rw own (is_on_lem q) in
+        record { stands = λ n h. rw (on, own, get_or-take n s.bits i false h.0, get_or-take n s.bits j false h.1); bits = refl }
 
-    pub executes_later : Served (Later i j) n t before → (p d : ℕ) → p ≡ t.delays → d ≡ j
-        → Executes (Later i j) frame n t (record { counters = t.counters; delays = t.delays + j }) before
-        (lent counters (shifted delays t.delays d (get_or bits i false)) (set bits n (get_or delays p false)))
-    unfolding execute
-    executes_later f p d first own =
-        rw (first, own) (executes (Later i j) f (get_or delays t.delays false) _ counters _ (rw (bit_read i (omega (arith, f.earlier)))))
+  -- n is d by what a part's bounds say
+  pub executes_later : (i d n : ℕ) → n ≡ d → 1 ≤ d → (oldest : Bool) (line : List Bool)
+      → oldest ≡ get_or (mid_of t.delays n s.registers.delays) 0 false
+      → line ≡ drop 1 (mid_of t.delays n s.registers.delays) ++ get_or s.bits i false ∷ []
+      → Executes (Later i d) frame t (record t { delays = t.delays + d }) s
+      (record s { registers = record s.registers { delays = put_mid t.delays n s.registers.delays line } }) oldest
+  unfolding execute
+  executes_later i d n own some oldest line first moved =
+      let delays = s.registers.delays in
+      let here : get_or (take d (drop t.delays delays)) 0 false ≡ get_or delays t.delays false =
+      get_or-take d (drop t.delays delays) 0 false some ∙ rw add-zero at (get_or-drop t.delays delays 0 false) in
+      let bit = rw (own, here) at first in
+      let shift = shifted_part delays line t.delays d (get_or s.bits i false) (rw own at moved) in
+      rw (own, bit, shift)
+      (record { stands = λ k h. rw (get_or-take k s.bits i false h.0); bits = refl })
 
 -- Instructions in turn
 
@@ -105,67 +99,62 @@ module _ (frame : ℕ) where
   executed_takes [] s = omega arith
   executed_takes (i ∷ is) s = omega (arith, execute_takes s i, executed_takes is (execute frame s i))
 
--- Arrays that are as long as before
-pub record SameSize (l l' : Lent) : Type 0 where
-  pub counters : length l'.registers.counters ≡ length l.registers.counters
-  pub delays : length l'.registers.delays ≡ length l.registers.delays
-  pub bits : length l'.bits ≡ length l.bits
+-- what fits behind some instructions fits behind more
+fits_more : (m n : ℕ) → m ≤ n → (i : Instruction) → FitsBehind m i → FitsBehind n i
+fits_more m n h One f = tt
+fits_more m n h (Flag k) f = f
+fits_more m n h (Nand i j) f = omega arith
+fits_more m n h (Reach i j w) f = omega arith
+fits_more m n h (Later i d) f = omega arith
 
-module _ (numbers : List ℕ) (frame : ℕ) (l₀ : Lent) (f : Fits numbers l₀) where
+module _ (code : Code) (frame : ℕ) (s₀ : Sequencer) where
   -- Where the loop stands behind n instructions
-  pub record Executing (n : ℕ) (t : Taken) (l : Lent) : Type 0 where
-    pub stands : stands_at n t l ≡ executed frame (code_in numbers n) (start l₀.registers)
-    pub rest : drop n l.bits ≡ drop n l₀.bits
-    pub size : SameSize l₀ l
+  pub record Executing (n : ℕ) (t : Taken) (s : Sequencer) : Type 0 where
+    pub stands : stands_at n t s ≡ executed frame (take n code) (start s₀.registers)
+    pub rest : drop n s.bits ≡ drop n s₀.bits
+    pub room : length s.bits ≡ limits.instructions
 
-  pub through_first : Executing 0 (record { counters = 0; delays = 0 }) l₀
-  unfolding code_in executed
-  through_first = record { stands = refl; rest = refl; size = record { counters = refl; delays = refl; bits = refl } }
+  pub through_first : length s₀.bits ≡ limits.instructions → (t : Taken) → (t.counters ≡ 0) × (t.delays ≡ 0) → Executing 0 t s₀
+  unfolding executed
+  through_first h t zero = record { stands = rw (zero.0, zero.1); rest = refl; room = h }
 
-  module _ {n : ℕ} {t : Taken} {l : Lent} (w : Executing n t l) where
-    pub can_execute : n < count_in numbers → CanExecute numbers n t l
-    can_execute h =
-        let fine = fine_at numbers (count_in numbers) n f.sound.good h in
-        let (used, taken) = executed_takes frame (code_in numbers n) (start l₀.registers) in
-        let own-used : t.counters ≡ reaches_in (code_in numbers n) = omega (arith, ap (λ s. s.used) w.stands) in
-        let own-taken : t.delays ≡ distance_in (code_in numbers n) = omega (arith, ap (λ s. s.taken) w.stands) in
+  module _ (f : Sound code) {n : ℕ} {t : Taken} {s : Sequencer} (w : Executing n t s) where
+    pub serves : n < length code → Served (get_or code n One) t
+    serves h =
+        let fine = f.good n h in
+        let (used, taken) = executed_takes frame (take n code) (start s₀.registers) in
+        let own-used : t.counters ≡ reaches_in (take n code) = omega (arith, ap (λ s. s.used) w.stands) in
+        let own-taken : t.delays ≡ distance_in (take n code) = omega (arith, ap (λ s. s.taken) w.stands) in
         record {
-          inside = omega (arith, f.sound.whole);
-          finds = record {
-            flag = fine.flag;
-            earlier = omega (arith, fine.earlier, code_length numbers n);
-            width = fine.width;
-            some = fine.some;
-            counter = omega (arith, fine.counters, f.counters, w.size);
-            line = omega (arith, fine.delays, f.delays, w.size);
-            place = omega (arith, fine.instructions, code_length numbers n, w.size, f.room);
-          };
+          fits = fits_more _ _ (omega (arith, fine.instructions)) _ fine.fits;
+          counter = omega (arith, fine.counters);
+          line = omega (arith, fine.delays);
         }
 
-    pub through_more : (t' : Taken) (l' : Lent) → Executes (instruction_at numbers n) frame n t t' l l' → SameSize l l' → Executing (n + 1) t' l'
-    unfolding code_in
-    through_more t' l' e s =
+    pub through_more : n < length code → (t' : Taken) (s' : Sequencer) (b : Bool)
+        → Executes (get_or code n One) frame t t' s s' b → Executing (n + 1) t' (record s' { bits = set s'.bits n b })
+    through_more h t' s' b e =
+        let fine = f.good n h in
+        let before : length (take n code) ≡ n = rw length-take (omega arith) in
+        let here : n < length s'.bits = rw e.bits (omega (arith, fine.instructions, w.room)) in
+        let behind : take (n + 1) (set s'.bits n b) ≡ take n s'.bits ++ b ∷ [] = rw (add-one n) (take-suc-set s'.bits n b here) in
+        let next : take (n + 1) code ≡ take n code ++ get_or code n One ∷ [] = rw (add-one n) (take-suc code n One h) in
+        let own = e.stands n (rw before at fine.fits) in
         record {
-          stands = e.stands ∙ rw (w.stands, add-one n) (sym (executed_more frame (code_in numbers n) (instruction_at numbers n) (start l₀.registers)));
-          rest = e.rest ∙ rw (← drop-drop 1 n l.bits, ← drop-drop 1 n l₀.bits) (ap (drop 1) w.rest);
-          size = record { counters = s.counters ∙ w.size.counters; delays = s.delays ∙ w.size.delays; bits = s.bits ∙ w.size.bits };
+          stands = rw (behind, own, w.stands, next) (sym (executed_more frame (take n code) (get_or code n One) (start s₀.registers)));
+          rest = rw (drop-set-lt (n + 1) s'.bits n b (omega arith), e.bits, ← drop-drop 1 n s.bits, ← drop-drop 1 n s₀.bits) (ap (drop 1) w.rest);
+          room = length-set s'.bits n b ∙ rw e.bits w.room;
         }
-
-    -- there is room for a bit of each instruction
-    pub all_written : count_in numbers ≤ length l.bits
-    all_written =
-        omega (arith, good_instructions (code_as numbers) f.sound.good, code_length numbers (count_in numbers), w.size.bits, f.room)
 
     -- Once all instructions are done
-    pub through_all : n ≡ count_in numbers → (p : ℕ) → p + 1 ≡ n → Leaves (code_as numbers) frame (get_or l.bits p false) l₀ l
+    pub through_all : n ≡ length code → (p : ℕ) → p + 1 ≡ n → Leaves code frame (get_or s.bits p false) s₀ s
     unfolding advanced_by
     through_all e p last =
-        let own = sym w.stands in
-        let before : n - 1 ≡ p = omega arith in
-        let bit : get_or (take n l.bits) p false ≡ get_or l.bits p false = get_or-take n l.bits p false (omega arith) in
-        let long : length (take n l.bits) ≡ n = rw length-take (omega (arith, all_written)) in
-        rw (← e)
-        (record {
-          advanced = rw (own, code_length numbers n, before, bit);
-          own_bits = rw (own, long, ← w.rest, take-append-drop);
-        })
+        let own : stands_at n t s ≡ executed frame code (start s₀.registers) = rw (take_all n code (omega arith)) at w.stands in
+        let before : length code - 1 ≡ p = omega arith in
+        let bit : get_or (take n s.bits) p false ≡ get_or s.bits p false = get_or-take n s.bits p false (omega arith) in
+        let long : length (take n s.bits) ≡ n = rw length-take (omega (arith, good_instructions code f.good, w.room)) in
+        record {
+          advanced = rw (← own, before, bit);
+          own_bits = rw (← own, long, ← w.rest, take-append-drop);
+        }

@@ -4,7 +4,9 @@ use Rattle.std.specs.Prelude.{Bool, List, [], ◌∷◌, ◌++◌, ℕ, zero, su
 use Rattle.ground.specs.Buffers.{over}
 use Rattle.ground.specs.Frames.{Clip}
 use Rattle.sequencer.specs.Bits.{Wire, counter, later, wire, wire_of}
-use Rattle.code.specs.Code.{Instruction, One, Flag, Nand, Reach, Later, Code}
+use Rattle.code.specs.declared.instruction.Instruction.{Instruction}
+use Rattle.code.specs.declared.instruction.Instruction.TheVariants.{One, Flag, Nand, Reach, Later}
+use Rattle.code.specs.Code.{Code}
 use Rattle.sequencer.specs.Registers.{kept, fresh_registers, start, executed, registers_of}
 use Rattle.sequencer.specs.declared.registers.Registers.{Registers}
 

@@ -6,7 +6,9 @@
 use Rattle.std.specs.Prelude.{◌≡◌, Bool, true, false, not, cond, ◌&&◌, List, [], ◌∷◌, ◌++◌, ℕ, ◌+◌, ◌-◌, ◌≤◌, ◌<◌, ltb}
 use Rattle.std.specs.Prelude.{length, get_or, drop}
 use Rattle.ground.specs.Frames.{Clip, has_flag}
-use Rattle.code.specs.Code.{Instruction, One, Flag, Nand, Reach, Later, Code}
+use Rattle.code.specs.declared.instruction.Instruction.{Instruction}
+use Rattle.code.specs.declared.instruction.Instruction.TheVariants.{One, Flag, Nand, Reach, Later}
+use Rattle.code.specs.Code.{Code}
 
 -- A bit after each clip
 abbrev pub Wire : Type 0

@@ -5,7 +5,9 @@ use Rattle.std.specs.Prelude.{Bool, true, false, not, ◌&&◌, List, [], ◌∷
 use Rattle.std.specs.Prelude.{take, drop, set, replicate}
 use Rattle.ground.specs.Frames.{has_flag}
 use Rattle.ground.specs.Limits.{limits}
-use Rattle.code.specs.Code.{Instruction, One, Flag, Nand, Reach, Later, Code}
+use Rattle.code.specs.declared.instruction.Instruction.{Instruction}
+use Rattle.code.specs.declared.instruction.Instruction.TheVariants.{One, Flag, Nand, Reach, Later}
+use Rattle.code.specs.Code.{Code}
 use Rattle.sequencer.specs.Bits.{Counter, none, count, next, is_on}
 use Rattle.sequencer.specs.declared.registers.Registers.{Registers}
 

@@ -1,11 +1,11 @@
 -- The step. Document 01: "The sequencer takes one frame at a time .. and hands its registers back", "A step refuses
 -- code as the run does and then hands the registers back unchanged."
-use Rattle.std.specs.Prelude.{ℕ}
+use Rattle.std.specs.Prelude.{ℕ, Ok, Err}
 use Rattle.reading.specs.InTurn.{AllRead, items, refused}
-use Rattle.code.specs.Code.{Instruction, Code}
+use Rattle.code.specs.declared.instruction.Instruction.{Instruction}
+use Rattle.code.specs.Code.{Code}
 use Rattle.sequencer.specs.Registers.{Working, start, executed, registers_of, output_of}
 use Rattle.sequencer.specs.declared.registers.Advanced.{Advanced}
-use Rattle.sequencer.specs.declared.registers.Output.{Output}
 use Rattle.sequencer.specs.declared.registers.Registers.{Registers}
 use Rattle.sequencer.specs.declared.registers.Stepped.{Stepped}
 
@@ -19,9 +19,9 @@ advanced_by code frame r = advanced_from code (executed frame code (start r))
 
 -- What a step by accepted code hands back
 abbrev pub stepped_by : Advanced → Stepped
-stepped_by a = record { output = Output.Bit a.bit; registers = a.registers }
+stepped_by a = record { output = Ok a.bit; registers = a.registers }
 
 -- What a step hands back
 abbrev pub stepped_of : AllRead Instruction → ℕ → Registers → Stepped
 stepped_of (items code) frame r = stepped_by (advanced_by code frame r)
-stepped_of (refused refusal) frame r = record { output = Output.Refused refusal; registers = r }
+stepped_of (refused refusal) frame r = record { output = Err refusal; registers = r }

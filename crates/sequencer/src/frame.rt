@@ -1,25 +1,38 @@
-// One frame through code that is loaded, over lent arrays: what each instruction makes of its bit and its registers.
-ghost use Rattle.std.specs.Prelude.{not, ◌&&◌, ◌≡◌, ◌+◌, ◌-◌, ◌≤◌, ◌<◌, length};
+// The sequencer at work: registers, and what a frame through code that is loaded makes of them, instruction by
+// instruction.
+ghost use Rattle.std.specs.Prelude.{false, not, ◌&&◌, ◌∷◌, ◌++◌, [], ◌≡◌, ◌≤◌, ◌<◌, length, drop, slice_index_or};
 ghost use Rattle.ground.specs.Frames.{has_flag};
 ghost use Rattle.ground.specs.Limits.{limits};
-ghost use Rattle.code.specs.Programs.{code_as, instruction_at};
+ghost use Rattle.code.specs.Programs.{Sound};
 ghost use Rattle.sequencer.specs.Bits.{next};
-ghost use Rattle.sequencer.specs.Registers.{counter_of, kept, shifted};
-ghost use Rattle.sequencer.specs.Inner.Through.{lent, CanExecute, Executes, Fits, Leaves};
+ghost use Rattle.sequencer.specs.Registers.{counter_of, kept};
+ghost use Rattle.sequencer.specs.Inner.Through.{at_work, Served, Executes, Leaves};
 
-use code::load::PER_INSTRUCTION;
+use crate::registers::Registers;
+use code::instruction::Instruction;
+use ground::limits::MOST_INSTRUCTIONS;
 
-// What stands for "none" in a counter; a count is kept as one more.
+// What stands for "none" in a counter; a count is kept as one more. A number and no `Option`, as a record of the
+// search's table keeps a counter in two bytes.
 pub(crate) const NONE: u16 = 0;
 
-// How many counters and delay bits the instructions so far have taken.
+// Registers, and the bits that the instructions of a frame have written so far.
 #[derive(Clone, Copy)]
+pub(crate) struct Sequencer {
+    pub registers: Registers,
+    pub bits: [bool; MOST_INSTRUCTIONS],
+}
+
+// How many counters and delay bits the instructions of a frame have taken so far. As fields of `Sequencer` they cost a
+// run a quarter more.
+#[derive(Clone, Copy, Default)]
 pub(crate) struct Taken {
     pub counters: usize,
     pub delays: usize,
 }
 
 // Whether a frame has a flag.
+#[tactic(auto, unfolding(ground::specs::Frames::has_flag))]
 fn has_flag(k: u16, frame: u8) -> bool
     requires { k ≤ limits.flag }
     ensures { result ≡ has_flag k frame }
@@ -31,135 +44,91 @@ fn has_flag(k: u16, frame: u8) -> bool
 fn nand(i: bool, j: bool) -> bool
     ensures { result ≡ not (i && j) }
 {
-    if i {
-        return !j;
-    }
-    true
+    !(i && j)
 }
 
 // What REACH makes of its counter.
+#[tactic(auto, unfolding(crate::specs::Bits::next), using(crate::proofs::Next::counter_some))]
 fn next_counter(counter: u16, width: u16, i: bool, j: bool) -> u16
     requires { width ≤ limits.width }
     ensures { result ≡ kept (next width i j (counter_of counter)) }
 {
-    if j {
-        return 1;
-    }
-    if !i {
-        return NONE;
-    }
-    if counter == NONE {
-        return NONE;
-    }
-    let count = counter - 1;
-    if width <= count {
-        return NONE;
-    }
-    counter + 1
-}
-
-// Moves the line of delay bits between two places on by one: the oldest falls out, and the newest comes in last.
-fn shift_in(delays: &mut [bool], at: usize, last: usize, newest: bool)
-    requires { (at ≤ last) × (last < length delays.old) }
-    ensures { delays.new ≡ shifted delays.old at (last + 1 - at) newest }
-{
-    let mut p = at;
-    while p < last {
-        delays[p] = delays[p + 1];
-        p += 1;
-    }
-    delays[last] = newest;
-}
-
-// Executes an instruction behind those before it: it writes its bit, and takes a counter or delay bits in code order.
-// Answers what is taken with it.
-fn execute(
-    numbers: &[u16],
-    n: usize,
-    frame: u8,
-    taken: Taken,
-    counters: &mut [u16],
-    delays: &mut [bool],
-    bits: &mut [bool],
-) -> Taken
-    requires { CanExecute numbers.now n taken (lent counters.old delays.old bits.old) }
-    ensures { Executes (instruction_at numbers.now n) frame n taken result
-        (lent counters.old delays.old bits.old)
-        (lent counters.new delays.new bits.new) }
-{
-    let base = PER_INSTRUCTION * n;
-    let first = numbers[base + 1];
-    let second = numbers[base + 2];
-    let i = first as usize;
-    let j = second as usize;
-    match numbers[base] {
-        0x01 => {
-            bits[n] = true;
-            taken
-        }
-        0x02 => {
-            bits[n] = has_flag(first, frame);
-            taken
-        }
-        0x03 => {
-            bits[n] = nand(bits[i], bits[j]);
-            taken
-        }
-        0x04 => {
-            let used = taken.counters;
-            let next = next_counter(counters[used], numbers[base + 3], bits[i], bits[j]);
-            counters[used] = next;
-            bits[n] = next != NONE;
-            Taken {
-                counters: used + 1,
-                delays: taken.delays,
-            }
-        }
-        _ => {
-            let at = taken.delays;
-            let behind = at + j;
-            let last = behind - 1;
-            let newest = bits[i];
-            bits[n] = delays[at];
-            shift_in(&mut *delays, at, last, newest);
-            Taken {
-                counters: taken.counters,
-                delays: behind,
-            }
-        }
-    }
-}
-
-// One frame through code that is loaded: its instructions in turn. Answers the last bit. The bits are working space.
-pub(crate) fn frame_through(
-    numbers: &[u16],
-    frame: u8,
-    counters: &mut [u16],
-    delays: &mut [bool],
-    bits: &mut [bool],
-) -> bool
-    requires { Fits numbers.now (lent counters.old delays.old bits.old) }
-    ensures { Leaves (code_as numbers.now) frame result
-        (lent counters.old delays.old bits.old)
-        (lent counters.new delays.new bits.new) }
-{
-    let count = numbers.len() / PER_INSTRUCTION;
-    let mut taken = Taken {
-        counters: 0,
-        delays: 0,
+    // Computed first, as a jump by j would often be guessed wrong.
+    let risen = if i && counter != NONE && counter <= width {
+        counter + 1
+    } else {
+        NONE
     };
-    let mut n = 0;
-    while n < count {
-        taken = execute(
-            numbers,
-            n,
-            frame,
-            taken,
-            &mut *counters,
-            &mut *delays,
-            &mut *bits,
-        );
-        n += 1;
+    if j { 1 } else { risen }
+}
+
+// Moves a line of delay bits on by one: the oldest falls out and is handed back, and the newest comes in last. The
+// slice's `rotate_left` takes less time than a loop over the line.
+fn shift_in(line: &mut [bool], newest: bool) -> bool
+    requires { 0 < length line.old }
+    ensures oldest { result ≡ slice_index_or line.old 0 false }
+    ensures line { line.new ≡ drop 1 line.old ++ newest ∷ [] }
+{
+    let oldest = line[0];
+    line[0] = newest;
+    line.rotate_left(1);
+    oldest
+}
+
+impl Sequencer {
+    // A sequencer with registers, before the first instruction of a frame.
+    pub(crate) fn new(registers: Registers) -> Sequencer
+        ensures { result ≡ at_work registers }
+    {
+        Sequencer {
+            registers,
+            bits: [false; MOST_INSTRUCTIONS],
+        }
     }
-    bits[count - 1]
+
+    // A bit that an instruction has written, by the instruction's number.
+    fn bit(&self, i: u16) -> bool
+        requires { i < limits.instructions }
+        ensures { result ≡ slice_index_or self.now.bits i false }
+    {
+        self.bits[usize::from(i)]
+    }
+
+    // Executes an instruction: it takes a counter or delay bits in code order, and its bit is handed back.
+    fn execute(&mut self, instruction: Instruction, frame: u8, taken: &mut Taken) -> bool
+        requires { Served instruction taken.old }
+        ensures { Executes instruction frame taken.old taken.new self.old self.new result }
+    {
+        match instruction {
+            Instruction::One => true,
+            Instruction::Flag(k) => has_flag(k, frame),
+            Instruction::Nand(i, j) => nand(self.bit(i), self.bit(j)),
+            Instruction::Reach(i, j, w) => {
+                let (i, j) = (self.bit(i), self.bit(j));
+                let counter = &mut self.registers.counters[taken.counters];
+                *counter = next_counter(*counter, w, i, j);
+                taken.counters += 1;
+                *counter != NONE
+            }
+            Instruction::Later(i, d) => {
+                let newest = self.bit(i);
+                let at = taken.delays;
+                let behind = at + usize::from(d);
+                taken.delays = behind;
+                shift_in(&mut self.registers.delays[at..behind], newest)
+            }
+        }
+    }
+
+    // One frame through code that is loaded: its instructions in turn. Answers the last bit.
+    pub(crate) fn read_frame(&mut self, code: &[Instruction], frame: u8) -> bool
+        requires { Sound code.now }
+        ensures { Leaves code.now frame result self.old self.new }
+    {
+        let mut taken = Taken::default();
+        for (n, instruction) in code.iter().enumerate() {
+            self.bits[n] = self.execute(*instruction, frame, &mut taken);
+        }
+        self.bits[code.len() - 1]
+    }
 }

@@ -1,40 +1,35 @@
 // Registers by value, and one step.
 ghost use Rattle.std.specs.Prelude.{◌≡◌};
 ghost use Rattle.code.specs.Loading.{read_code};
-ghost use Rattle.code.specs.Programs.{code_as, Sound};
+ghost use Rattle.code.specs.Programs.{Sound};
 ghost use Rattle.sequencer.specs.Registers.{fresh_registers};
 ghost use Rattle.sequencer.specs.Stepping.{advanced_by, stepped_of};
 
-use crate::frame::{NONE, frame_through};
-use code::load::{LoadedCode, PER_INSTRUCTION, decode};
-use ground::limits::{COUNTERS, DELAYS, MOST_INSTRUCTIONS};
+use crate::frame::{NONE, Sequencer};
+use code::instruction::Instruction;
+use code::load::decode;
+use ground::limits::{COUNTERS, DELAYS};
 use ground::refusal::Refusal;
 
 // All counters and all delay bits.
-#[derive(Clone, Copy)]
+#[derive(Clone, Copy, Debug, PartialEq, Eq)]
 pub struct Registers {
     pub counters: [u16; COUNTERS],
     pub delays: [bool; DELAYS],
 }
 
-// What a step answers: the output bit, or the refusal of the code.
-#[derive(Clone, Copy)]
-pub enum Output {
-    Bit(bool),
-    Refused(Refusal),
-}
-
-// What a frame through loaded code hands back: the output bit and the new registers.
-#[derive(Clone, Copy)]
+// What a frame through loaded code hands back: the output bit and the new registers, in document 01's form.
+#[derive(Clone, Copy, Debug, PartialEq, Eq)]
 pub struct Advanced {
     pub bit: bool,
     pub registers: Registers,
 }
 
-// What a step hands back: its answer and the registers, unchanged if the code is refused.
-#[derive(Clone, Copy)]
+// What a step hands back: the output bit or the refusal of the code, and the registers, unchanged if it is refused, as
+// document 01 hands them back then too.
+#[derive(Clone, Copy, Debug, PartialEq, Eq)]
 pub struct Stepped {
-    pub output: Output,
+    pub output: Result<bool, Refusal>,
     pub registers: Registers,
 }
 
@@ -50,16 +45,13 @@ impl Registers {
     }
 
     // Takes one frame through code that is loaded, and hands the new registers back with the output bit.
-    pub fn advance(mut self, numbers: &[u16], frame: u8) -> Advanced
-        requires { Sound numbers.now }
-        ensures { result ≡ advanced_by (code_as numbers.now) frame self }
+    pub fn advance(mut self, code: &[Instruction], frame: u8) -> Advanced
+        requires { Sound code.now }
+        ensures { result ≡ advanced_by code.now frame self }
     {
-        let mut counters = self.counters;
-        let mut delays = self.delays;
-        let mut bits = [false; MOST_INSTRUCTIONS];
-        let bit = frame_through(numbers, frame, &mut counters, &mut delays, &mut bits);
-        self.counters = counters;
-        self.delays = delays;
+        let mut sequencer = Sequencer::new(self);
+        let bit = sequencer.read_frame(code, frame);
+        self = sequencer.registers;
         Advanced {
             bit,
             registers: self,
@@ -71,21 +63,16 @@ impl Registers {
     pub fn step(self, code: &[u8], frame: u8) -> Stepped
         ensures { result ≡ stepped_of (read_code code.now) frame self }
     {
-        let program = decode(code);
-        let loaded = program.loaded;
-        match loaded {
-            LoadedCode::Accepted(count) => {
-                let numbers = program.numbers;
-                let length = PER_INSTRUCTION * count;
-                let advanced = self.advance(&numbers[0..length], frame);
-                let registers = advanced.registers;
+        match decode(code) {
+            Ok(program) => {
+                let advanced = self.advance(program.code(), frame);
                 Stepped {
-                    output: Output::Bit(advanced.bit),
-                    registers,
+                    output: Ok(advanced.bit),
+                    registers: advanced.registers,
                 }
             }
-            LoadedCode::Refused(refusal) => Stepped {
-                output: Output::Refused(refusal),
+            Err(refusal) => Stepped {
+                output: Err(refusal),
                 registers: self,
             },
         }

@@ -4,12 +4,14 @@ use mathlib.Core.Path.{◌≡◌, refl}
 use mathlib.Core.Bool.{true}
 use mathlib.Core.List.{List}
 use mathlib.Core.Logic.{◌⊎◌, inl, inr, ⊎_elim, by_cases}
-use Prim.Native.Nat.{ℕ, ◌+◌, ◌≤◌}
+use Prim.Native.Nat.{ℕ, ◌+◌, ◌*◌, ◌≤◌, ◌<◌}
 use native.Mathlib.Decide.{dec_le}
 use native.Mathlib.Omega.{arith}
 use borrow.Author.Tests.{lt-ltb}
 use lib.ListN.{length, take, length-append, length-take}
+use Rattle.std.proofs.Common.{Option, Some, None, IfSome, Result, Ok, Err}
 use Rattle.ground.specs.Buffers.{AllBytes}
+use Rattle.ground.specs.Limits.{most_horizon}
 use Rattle.ground.specs.declared.refusal.Refusal.{Refusal}
 use Rattle.rules.specs.Accepted.{IsRule}
 use Rattle.rules.specs.Formula.{Formula, horizon}
@@ -22,7 +24,7 @@ use Rattle.finder.specs.declared.search.Found.{Found}
 use Rattle.finder.proofs.Demand.{demand_two}
 use Rattle.finder.proofs.Small.{Small, said_small}
 use Rattle.standing.specs.Inner.Within.{ClipWithin}
-use Rattle.standing.specs.Standing.{most_text, standing_text}
+use Rattle.standing.specs.Standing.{most_text, clip_text, standing_text}
 use Rattle.standing.specs.Text.{head_text}
 use Rattle.standing.proofs.Lengths.{head_length, met_length, none_length, refused_length}
 
@@ -31,11 +33,19 @@ head_short : (rule : List ℕ) (is : Items) (f : Formula) → IsRule rule is f �
 head_short rule is f own =
     head_length (length rule) (length is) (horizon f) (omega (arith, own.short)) (omega (arith, own.items)) (omega (arith, own.near))
 
-module _ (rule table witness : List ℕ) (found : Found) (table' witness' : List ℕ)
+-- the lines on a clip, or that there is none
+clip_short : (shown : Option ℕ) (states : ℕ) (witness : List ℕ) → IfSome shown (λ l. l ≤ most_horizon + 1) → states < 100000
+    → length (clip_text shown states witness) ≤ 3 * (most_horizon + 1) + 31
+clip_short (Some l) states witness short few =
+    let shown = length-take l witness in
+    omega (arith, shown, met_length states (take l witness) few (omega (arith, shown)))
+clip_short None states witness short few = omega (arith, none_length states few)
+
+module _ (rule table witness : List ℕ) (found : Result Found Refusal) (table' witness' : List ℕ)
     (says : SearchSays (read_rule rule) table witness found table' witness') where
   -- of an accepted rule it says 14, or what the second demand has
   said : (is : Items) (f : Formula) → read_rule rule ≡ accepted is f
-      → (found ≡ Found.Refused Refusal.ShortWitness) ⊎ Demanded f table witness found table' witness'
+      → (found ≡ Err Refusal.ShortWitness) ⊎ Demanded f table witness found table' witness'
   said is f reads =
       by_cases (dec_le (horizon f + 1) (length witness))
       (λ long. inr (demand_two rule table witness is f reads long found table' witness' says)) λ short.
@@ -43,29 +53,24 @@ module _ (rule table witness : List ℕ) (found : Found) (table' witness' : List
       inl (rw (reads, l) at says).own_answer
 
   -- The clip that is shown has a frame or more, and lies within the witness buffer
-  pub shown : (is : Items) (f : Formula) → read_rule rule ≡ accepted is f → ClipWithin found witness'
-  shown is f reads = go found refl
+  pub shown : (is : Items) (f : Formula) → read_rule rule ≡ accepted is f → (x : Found) → found ≡ Ok x → ClipWithin x witness'
+  shown is f reads x e = go x.length refl
     where
-      go : (answer : Found) → found ≡ answer → ClipWithin answer witness'
-      go (Found.Met l m) met =
-          ⊎_elim (λ e. absurd (let z : ◌≡◌ {A = ℕ} 0 1 = cc in omega arith))
-          (λ d. let s = (rw met at d).shown refl in omega (arith, s.first.satisfying.some, s.long, length-take l witness'))
+      go : (length : Option ℕ) → x.length ≡ length → IfSome length (λ l. (1 ≤ l) × (l ≤ lib.ListN.length witness'))
+      go (Some l) met =
+          ⊎_elim (λ refused. absurd (let z : ◌≡◌ {A = ℕ} 0 1 = cc in omega arith))
+          (λ d. let s = (rw (e, met) at d).shown refl in omega (arith, s.first.satisfying.some, s.long, length-take l witness'))
           (said is f reads)
-      go (Found.None m) e = tt
-      go (Found.Refused r) e = tt
+      go None e = tt
 
   -- The text on any rule
   pub text_fits : AllBytes rule → length (standing_text (length rule) (read_rule rule) found witness') ≤ most_text
   text_fits small = go (read_rule rule) refl found (said_small rule table witness found table' witness' small says)
     where
-      go : (read : Reading) → read_rule rule ≡ read → (answer : Found) → Small answer
+      go : (read : Reading) → read_rule rule ≡ read → (answer : Result Found Refusal) → Small answer
           → length (standing_text (length rule) read answer witness') ≤ most_text
-      go (accepted is f) reads (Found.Met l m) (short, some, few) =
+      go (accepted is f) reads (Ok found) (short, some, few) =
           let head = head_short rule is f (accepted_rule rule is f small reads) in
-          let shown = length-take l witness' in
-          rw length-append (omega (arith, head, shown, met_length m (take l witness') (omega arith) (omega (arith, shown))))
-      go (accepted is f) reads (Found.None m) (some, few) =
-          let head = head_short rule is f (accepted_rule rule is f small reads) in
-          rw length-append (omega (arith, head, none_length m (omega arith)))
-      go (accepted is f) reads (Found.Refused r) near = omega (arith, refused_length r (omega arith))
+          rw length-append (omega (arith, head, clip_short found.length found.states witness' short (omega arith)))
+      go (accepted is f) reads (Err r) near = omega (arith, refused_length r (omega arith))
       go (refused r) reads answer near = omega (arith, refused_length r (omega (arith, rule_place rule r small reads)))

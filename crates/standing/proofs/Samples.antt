@@ -13,7 +13,7 @@ use Rattle.rules.specs.Items.{item_of, apply}
 use Rattle.rules.specs.Loading.{stack_from, timed_in, lower_in, rule_counts, rule_counted, bad_window, rule_too_large, check_item, read_rule}
 use Rattle.table.specs.Room.{room_of}
 use Rattle.samples.specs.Samples.{samples}
-use Rattle.finder.specs.declared.search.Found.{Found}
+use Rattle.std.proofs.Common.{Some, Ok}
 use Rattle.samples.proofs.Samples.{samples_right}
 use Rattle.standing.specs.Standing.{standing_text, Prints}
 use Rattle.text.specs.Digits.{ascii, digits_in, decimal}
@@ -27,7 +27,8 @@ abbrev pub example : List ℕ
 example = ascii "rule 5 bytes 2 items\nhorizon 4\nmet 3 frames 4 states\n00 00 01\n"
 
 -- they are the text, with what the search finds for the rule
-pub met_sample : (rest : List ℕ) → standing_text (length fifth) (read_rule fifth) (Found.Met 3 4) (0x00 ∷ 0x00 ∷ 0x01 ∷ rest) ≡ example
+pub met_sample : (rest : List ℕ)
+    → standing_text (length fifth) (read_rule fifth) (Ok (record { length = Some 3; states = 4 })) (0x00 ∷ 0x00 ∷ 0x01 ∷ rest) ≡ example
 unfolding ascii digits_in decimal spaced read_rule read_all in_turn item_at numbers_from look rule_codes number_at check_item bad_window rule_too_large
     rule_counts
     rule_counted timed_in lower_in stack_from apply item_of horizon

@@ -6,7 +6,7 @@
 
 ghost use Rattle.std.specs.Prelude.{◌≤◌, length, IfOk};
 
-mod clip;
+mod page;
 mod standing;
 
 use crate::standing::{MOST_TEXT, write_standing};
@@ -23,7 +23,8 @@ const TABLE: usize = 65_536;
 // The length of the witness buffer: the greatest that 14 can ask.
 const WITNESS: usize = MOST_HORIZON + 1;
 
-// Reads bytes until the buffer is full or the input ends, and answers how many.
+// Reads bytes until the buffer is full or the input ends, and answers how many. The library's `read_exact` says nothing
+// of a shorter input, and its `read_to_end` needs a heap.
 fn read_full<R: Read>(input: &mut R, buffer: &mut [u8]) -> io::Result<usize>
     ensures { IfOk result (λ n. n ≤ length buffer.new) }
 {

@@ -1,98 +1,100 @@
 -- Chains that go down: a walk from a bucket's head meets every number in the bucket, since none lies between two links; and a new number goes in front.
-use mathlib.Core.Path.{◌≡◌, sym, subst, ◌∙◌}
+use mathlib.Core.Path.{◌≡◌, refl, ap, sym, subst, ◌∙◌}
 use mathlib.Core.Logic.{by_cases}
-use Prim.Native.Nat.{ℕ, ◌+◌, ◌-◌, ◌≤◌, ◌<◌}
+use Prim.Native.Nat.{ℕ, ◌+◌, ◌≤◌, ◌<◌}
 use native.Mathlib.Decide.{dec_lt, ℕ_discrete}
 use native.Mathlib.Omega.{arith}
-use Rattle.table.specs.Inner.Chains.{Last, Chained}
+use Rattle.std.proofs.Common.{Option, Some, None}
+use Rattle.table.specs.Inner.Chains.{Last, LastIn, Chained}
 
--- A walk down a bucket for numbers that are looked for: those that it has passed are none of them
-pub record Down (bucket : ℕ → ℕ) (Looked : ℕ → Type 0) (b stored at : ℕ) : Type 0 where
-  pub upto : at ≤ stored
-  pub own : (m : ℕ) → at ≡ m + 1 → bucket m ≡ b
-  pub missed : (n : ℕ) → at ≤ n → n < stored → Looked n → ⊥
+-- There is one last number with a property at most
+pub last_one : (P : ℕ → Type 0) (k : ℕ) (o p : Option ℕ) → Last P k o → Last P k p → o ≡ p
+last_one P k (Some m) (Some n) (m_less, m_own, m_last) (n_less, n_own, n_last) =
+    by_cases (dec_lt m n) (λ h. absurd (m_last n h n_less n_own)) λ h.
+    by_cases (dec_lt n m) (λ l. absurd (n_last m l m_less m_own)) λ l.
+    let same : m ≡ n = omega arith in
+    ap Some same
+last_one P k (Some m) None a b = absurd (b m a.0 a.1)
+last_one P k None (Some n) a b = absurd (a n b.0 b.1)
+last_one P k None None a b = refl
+
+-- The last number below k with a property
+module _ (P : ℕ → Type 0) {k : ℕ} where
+  -- is the last one with a property that the same numbers have
+  last_like : (Q : ℕ → Type 0) → ((n : ℕ) → n < k → P n → Q n) → ((n : ℕ) → n < k → Q n → P n) → (o : Option ℕ) → Last P k o → Last Q k o
+  last_like Q to from (Some n) (less, own, last) = (less, to n less own, λ m above below h. last m above below (from m below h))
+  last_like Q to from None none = λ n less h. none n less (from n less h)
+
+  -- k itself is the last one below k and one more if it has the property, and else the same one is
+  last_here : P k → Last P (k + 1) (Some k)
+  last_here own = (omega arith, own, λ m above less h. absurd (omega arith))
+
+  last_on : (P k → ⊥) → (o : Option ℕ) → Last P k o → Last P (k + 1) o
+  last_on other o last = on o last
+    where
+      none_at : (m : ℕ) → m < k + 1 → (m < k → ⊥) → P m → ⊥
+      none_at m less high h = let same : m ≡ k = omega arith in other (subst P same h)
+
+      on : (o : Option ℕ) → Last P k o → Last P (k + 1) o
+      on (Some n) (less, own, last) = (omega arith, own, λ m above below h. by_cases (dec_lt m k) (λ low. last m above low h) λ high. none_at m below high h)
+      on None none = λ n less h. by_cases (dec_lt n k) (λ low. none n low h) λ high. none_at n less high h
+
+-- How far a walk down has to go at most: it is at a number, or at the end
+abbrev pub height : Option ℕ → ℕ
+height (Some n) = n + 1
+height None = 0
+
+pub last_lower : (P : ℕ → Type 0) {k : ℕ} (o : Option ℕ) → Last P k o → height o ≤ k
+last_lower P (Some n) last = omega (arith, last.0)
+last_lower P None none = omega arith
+
+-- A walk down a chain for a number that is looked for: it is at one of the chain's numbers or at the end, and has passed none that is looked for
+abbrev pub Down : (ℕ → Type 0) → (ℕ → Type 0) → ℕ → Option ℕ → Type 0
+Down Own Looked k (Some n) = (n < k) × Own n × ((m : ℕ) → n < m → m < k → Looked m → ⊥)
+Down Own Looked k None = (n : ℕ) → n < k → Looked n → ⊥
+
+-- All that are looked for are in the chain
+module _ {Own Looked : ℕ → Type 0} {k : ℕ} (inside : (n : ℕ) → n < k → Looked n → Own n) where
+  pub walk_first : (o : Option ℕ) → Last Own k o → Down Own Looked k o
+  walk_first (Some n) (less, own, last) = (less, own, λ m above below looked. last m above below (inside m below looked))
+  walk_first None none = λ n less looked. none n less (inside n less looked)
+
+  pub walk_more : {n : ℕ} → Down Own Looked k (Some n) → (Looked n → ⊥) → (o : Option ℕ) → Last Own n o → Down Own Looked k o
+  walk_more {n} (n_less, n_own, passed) miss o last = more o last
+    where
+      rest : (i : ℕ) → i < k → (i < n → ⊥) → Looked i → ⊥
+      rest i less high looked = by_cases (ℕ_discrete i n) (λ e. miss (subst Looked e looked)) λ other. passed i (omega arith) less looked
+
+      more : (o : Option ℕ) → Last Own n o → Down Own Looked k o
+      more (Some m) (less, own, last) = (
+        omega arith,
+        own,
+        λ i above below looked. by_cases (dec_lt i n) (λ low. last i above low (inside i below looked)) λ high. rest i below high looked,
+      )
+      more None none = λ i below looked. by_cases (dec_lt i n) (λ low. none i low (inside i below looked)) λ high. rest i below high looked
 
 -- No number is in the chains yet
-pub chained_none : (bucket head link : ℕ → ℕ) (buckets : ℕ) → ((b : ℕ) → b < buckets → head b ≡ 0) → Chained bucket head link buckets 0
+pub chained_none : (bucket : ℕ → ℕ) (head link : ℕ → Option ℕ) (buckets : ℕ) → ((b : ℕ) → b < buckets → head b ≡ None) → Chained bucket head link buckets 0
 chained_none bucket head link buckets empty =
-    record {
-      heads = λ b h. let e = empty b h in record { upto = omega arith; own = λ m o. absurd (omega arith); none = λ n l less. absurd (omega arith) };
-      links = λ m h. absurd (omega arith);
-    }
+    record { heads = λ b h. rw (empty b h) (λ n less. absurd (omega arith)); links = λ m h. absurd (omega arith) }
 
-module _ {bucket head link : ℕ → ℕ} {buckets stored : ℕ} (c : Chained bucket head link buckets stored) where
-  -- All that are looked for are in one bucket
-  module _ (Looked : ℕ → Type 0) (b : ℕ) (inside : (n : ℕ) → n < stored → Looked n → bucket n ≡ b) where
-    pub walk_first : b < buckets → Down bucket Looked b stored (head b)
-    walk_first h =
-        let last = c.heads b h in
-        record { upto = last.upto; own = last.own; missed = λ n l less looked. last.none n l less (inside n less looked) }
+-- A new number goes in front of its bucket
+module _ {bucket : ℕ → ℕ} {head link : ℕ → Option ℕ} {buckets stored : ℕ} (c : Chained bucket head link buckets stored) (bucket' : ℕ → ℕ)
+    (head' link' : ℕ → Option ℕ) (b : ℕ) (same-bucket : (m : ℕ) → m < stored → bucket' m ≡ bucket m)
+    (same_link : (m : ℕ) → m < stored → link' m ≡ link m)
+    (own-bucket : bucket' stored ≡ b) (b-inside : b < buckets) (own_link : link' stored ≡ head b) (own-head : head' b ≡ Some stored)
+    (same_head : (x : ℕ) → x < buckets → (x ≡ b → ⊥) → head' x ≡ head x) where
+  -- what is last among the old ones is so by the new buckets
+  still : (x : ℕ) {k : ℕ} → k ≤ stored → (o : Option ℕ) → LastIn bucket x k o → LastIn bucket' x k o
+  still x few = last_like _ _ (λ n less e. same-bucket n (omega arith) ∙ e) (λ n less e. sym (same-bucket n (omega arith)) ∙ e)
 
-    module _ {at : ℕ} (w : Down bucket Looked b stored at) where
-      pub walk_all : at ≡ 0 → (n : ℕ) → n < stored → Looked n → ⊥
-      walk_all end n h = w.missed n (omega arith) h
-
-      module _ (more : at ≡ 0 → ⊥) where
-        here : at - 1 < stored
-        here = omega (arith, w.upto)
-
-        last : Last bucket b (at - 1) (link (at - 1))
-        last = subst (λ x. Last bucket x (at - 1) (link (at - 1))) (w.own (at - 1) (omega arith)) (c.links (at - 1) here)
-
-        pub walk_less : link (at - 1) < at
-        walk_less = omega (arith, last.upto)
-
-        pub walk_more : (Looked (at - 1) → ⊥) → Down bucket Looked b stored (link (at - 1))
-        walk_more miss =
-            record {
-              upto = omega (arith, last.upto, w.upto);
-              own = last.own;
-              missed = λ n l less looked.
-                  by_cases (dec_lt n (at - 1)) (λ low. last.none n l low (inside n less looked)) λ high.
-                  by_cases (ℕ_discrete n (at - 1)) (λ e. miss (subst Looked e looked)) λ other. w.missed n (omega arith) less looked;
-            }
-
-  -- A new number goes in front of its bucket
-  module _ (bucket' head' link' : ℕ → ℕ) (b : ℕ) (same-bucket : (m : ℕ) → m < stored → bucket' m ≡ bucket m)
-      (same_link : (m : ℕ) → m < stored → link' m ≡ link m)
-      (own-bucket : bucket' stored ≡ b) (b-inside : b < buckets) (own_link : link' stored ≡ head b) (own-head : head' b ≡ stored + 1)
-      (same_head : (x : ℕ) → x < buckets → (x ≡ b → ⊥) → head' x ≡ head x) where
-    -- what is last among the old ones is so by the new buckets
-    still : {x k l : ℕ} → k ≤ stored → Last bucket x k l → Last bucket' x k l
-    still few last =
-        record {
-          upto = last.upto;
-          own = λ m e. same-bucket m (omega (arith, last.upto)) ∙ last.own m e;
-          none = λ n l less e. last.none n l less (sym (same-bucket n (omega arith)) ∙ e);
-        }
-
-    -- the new number itself
-    new_head : Last bucket' b (stored + 1) (stored + 1)
-    new_head =
-        record {
-          upto = omega arith;
-          own = λ m e. let same : m ≡ stored = omega arith in rw same own-bucket;
-          none = λ n l less. absurd (omega arith);
-        }
-
-    -- another bucket
-    old_head : (x : ℕ) → x < buckets → (x ≡ b → ⊥) → Last bucket' x (stored + 1) (head x)
-    old_head x h other =
-        let last = still (omega arith) (c.heads x h) in
-        record {
-          upto = omega (arith, last.upto);
-          own = last.own;
-          none = λ n l less e. by_cases (dec_lt n stored) (λ low. last.none n l low e) λ high.
-              let same : n ≡ stored = omega arith in
-              other (sym (rw same at e) ∙ own-bucket);
-        }
-
-    pub chained_more : Chained bucket' head' link' buckets (stored + 1)
-    chained_more =
-        record {
-          heads = λ x h. by_cases (ℕ_discrete x b) (λ e. rw (e, own-head) new_head) λ other. rw (same_head x h other) (old_head x h other);
-          links = λ m h. by_cases (dec_lt m stored)
-              (λ low. subst (λ l. Last bucket' (bucket' m) m l) (sym (same_link m low))
-              (subst (λ x. Last bucket' x m (link m)) (sym (same-bucket m low)) (still (omega arith) (c.links m low))))
-              λ high. let same : m ≡ stored = omega arith in rw (same, own_link, own-bucket) (still (omega arith) (c.heads b b-inside));
-        }
+  pub chained_more : Chained bucket' head' link' buckets (stored + 1)
+  chained_more =
+      record {
+        heads = λ x h. by_cases (ℕ_discrete x b) (λ e. rw (e, own-head) (last_here _ own-bucket)) λ other.
+            rw (same_head x h other) (last_on _ (λ e. other (sym e ∙ own-bucket)) (head x) (still x (omega arith) (head x) (c.heads x h)));
+        links = λ m h. by_cases (dec_lt m stored)
+            (λ low. rw (same_link m low, same-bucket m low) (still (bucket m) (omega arith) (link m) (c.links m low)))
+            λ high. let same : m ≡ stored = omega arith in
+            rw (same, own_link, own-bucket) (still b (omega arith) (head b) (c.heads b b-inside));
+      }

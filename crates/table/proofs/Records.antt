@@ -1,45 +1,77 @@
 -- Records keep registers. The bytes are written place by place, and read back they give the registers: a counter is its low byte and 256 times its high byte,
 -- and bit k of eight bits as a number is the bit at place k.
-use mathlib.Core.Path.{◌≡◌, refl, ◌∙◌, sym, subst}
+use mathlib.Core.Path.{◌≡◌, refl, ◌∙◌, sym, ap}
 use mathlib.Core.Bool.{Bool, true, false}
-use mathlib.Core.List.{List}
-use mathlib.Core.Logic.{⊎_elim}
+use mathlib.Core.List.{List, [], ◌∷◌, ◌++◌}
 use Prim.Native.Nat.{ℕ, zero, suc, ◌+◌, ◌*◌, ◌-◌, ◌/◌, ◌%◌, ◌^◌, ◌≤◌, ◌<◌}
-use native.Mathlib.Nat.{add-zero, add_assoc, div-div-eq-div-mul, pow-succ', eq-or-lt_of_le}
+use native.Mathlib.Nat.{div-div-eq-div-mul, pow-succ', mul-le-mul_right, mod-eq_of_lt, zero-mul}
+use native.Mathlib.Numerals.{add-one}
 use native.Mathlib.Omega.{arith}
 use borrow.Author.Tests.{lt-ltb, le-ltb}
 use lib.Dec.{eqb}
-use lib.ListN.{length, get_or, drop, set, length-set}
-use lib.Seq.{get_or-drop, drop-drop, get_or-set_same, get_or-set_other, ext_get_or}
+use lib.ListN.{length, get_or, take, drop, set, length-set, length-append, length-drop, get_or-append}
+use lib.Seq.{get_or-drop, get_or-take, drop-drop, get_or-set_same, get_or-set_other, ext_get_or, length-take-le}
+use Rattle.std.specs.Int.{from_bool, to_le_bytes, w16}
+use Rattle.std.specs.Int.Bits.{bit_or, or_shifted_r}
+use Rattle.std.specs.Simd.{first_chunks}
+use Rattle.std.proofs.Common.{Option, below_more}
+use Rattle.std.proofs.lemmas.List.{get_or-append_right}
+use Rattle.std.proofs.lemmas.Nat.{pow_below}
+use Rattle.ground.specs.Buffers.{byte_values}
 use Rattle.ground.specs.Frames.{has_flag}
 use Rattle.ground.specs.Limits.{limits}
-use Rattle.ground.specs.Buffers.{byte_values, byte_of}
 use Rattle.sequencer.specs.declared.registers.Registers.{Registers}
-use Rattle.table.specs.Inner.Records.{counter_size, byte_bits, counter_bytes, key_bytes, counter_in, delay_in, link_size, bits_value, nibble_of, half_of}
-use Rattle.table.specs.Inner.Records.{key_byte, Whole, Keeps, KeptBy, KeyWritten, CountersOf, DelaysOf, RegistersIn, link_place, chain_place, LinkWritten}
-use Rattle.table.specs.Inner.Records.{Written, frame_place}
+use Rattle.table.specs.Inner.Records.{counter_size, byte_bits, counter_bytes, key_bytes, delay_in, bits_value, half_of, key_byte, Keeps, KeptBy}
+use Rattle.table.specs.Inner.Records.{HasKey, CountersOf, DelaysOf, RegistersIn, LinkWritten, Written, link_size, link_at, link_place, frame_place, chain_place}
+
+-- Of a row that is cut into arrays each is a part of the row
+pub chunk_at : {A : Type 0} (size count : ℕ) (xs : List A) (n : ℕ) (d : List A) → n < count
+    → get_or (first_chunks size count xs) n d ≡ take size (drop (n * size) xs)
+chunk_at size zero xs n d h = absurd (omega arith)
+chunk_at size (suc count) xs zero d h = rw zero-mul
+chunk_at size (suc count) xs (suc n) d h =
+    let next : size + n * size ≡ suc n * size = omega arith in
+    rw (← next, ← drop-drop) (chunk_at size count (drop size xs) n d (omega arith))
 
 -- Bits as numbers
 
-byte_small : (b : Bool) → byte_of b ≤ 1
+byte_small : (b : Bool) → from_bool b ≤ 1
 byte_small true = omega arith
 byte_small false = omega arith
 
-pub nibble_small : (a b c d : Bool) → nibble_of a b c d < 16
-nibble_small a b c d = omega (arith, byte_small a, byte_small b, byte_small c, byte_small d)
-
 -- a bit is read back from its byte
-byte_bit : (b : Bool) → eqb (byte_of b) 1 ≡ b
+byte_bit : (b : Bool) → eqb (from_bool b) 1 ≡ b
 byte_bit true = refl
 byte_bit false = refl
 
--- the first four and 16 times the last four
-pub bits_eight : (bits : List Bool) (at : ℕ)
-    → nibble_of (get_or bits at false) (get_or bits (at + 1) false) (get_or bits (at + 2) false) (get_or bits (at + 3) false)
-    + 16 * nibble_of (get_or bits (at + 4) false) (get_or bits (at + 5) false) (get_or bits (at + 6) false) (get_or bits (at + 7) false) ≡ bits_value byte_bits
-    (drop at bits)
+-- so many bits fit into so many
+bits_small : (k : ℕ) (bits : List Bool) → bits_value k bits < 2 ^ k
 unfolding bits_value
-bits_eight bits at = simp (drop-drop, get_or-drop, add_assoc, add-zero) (omega arith)
+bits_small zero bits = omega arith
+bits_small (suc k) bits = rw (pow-succ' 2 k) (omega (arith, bits_small k (drop 1 bits), byte_small (get_or bits 0 false)))
+
+-- one bit more, which counts twice what the one before it counts
+bits_more : (k : ℕ) (bits : List Bool) → bits_value (k + 1) bits ≡ from_bool (get_or bits k false) * 2 ^ k + bits_value k bits
+unfolding bits_value
+bits_more zero bits = omega arith
+bits_more (suc k) bits =
+    let next : 1 + k ≡ suc k = omega arith in
+    let b = from_bool (get_or bits (suc k) false) in
+    let own : get_or (drop 1 bits) k false ≡ get_or bits (suc k) false = rw (get_or-drop, next) in
+    let more : bits_value (k + 1) (drop 1 bits) ≡ b * 2 ^ k + bits_value k (drop 1 bits) = rw own at (bits_more k (drop 1 bits)) in
+    let twice : 2 * (b * 2 ^ k) ≡ b * (2 * 2 ^ k) = grind arith in
+    let next_more = rw add-one at more in
+    rw (add-one, pow-succ' 2 k) (omega (arith, next_more, twice))
+
+-- a byte of the first bits with one more set in it
+pub bits_set : (k : ℕ) (bits : List Bool) → k < byte_bits
+    → bit_or (bits_value k bits) (from_bool (get_or bits k false) * 2 ^ k % byte_values) ≡ bits_value (k + 1) bits
+bits_set k bits h =
+    let b = from_bool (get_or bits k false) in
+    let most : 2 ^ k < 2 ^ byte_bits = pow_below k byte_bits h in
+    let one : b * 2 ^ k ≤ 1 * 2 ^ k = mul-le-mul_right (2 ^ k) (byte_small (get_or bits k false)) in
+    let small : b * 2 ^ k < byte_values = omega arith in
+    rw (mod-eq_of_lt small, or_shifted_r b k (bits_value k bits) (bits_small k bits), bits_more k bits)
 
 -- bit k of a number of n bits is the bit at place k
 bits_flag : (n : ℕ) (bits : List Bool) (k : ℕ) → k < n → has_flag k (bits_value n bits) ≡ get_or bits k false
@@ -47,35 +79,25 @@ unfolding bits_value has_flag
 bits_flag zero bits k h = absurd (omega arith)
 bits_flag (suc n) bits zero h =
     let b = get_or bits 0 false in
-    let e : (byte_of b + 2 * bits_value n (drop 1 bits)) / 1 % 2 ≡ byte_of b = omega (arith, byte_small b) in
+    let e : (from_bool b + 2 * bits_value n (drop 1 bits)) / 1 % 2 ≡ from_bool b = omega (arith, byte_small b) in
     rw e (byte_bit b)
 bits_flag (suc n) bits (suc k) h =
     let b = get_or bits 0 false in
     let y = bits_value n (drop 1 bits) in
-    let half : (byte_of b + 2 * y) / 2 ≡ y = omega (arith, byte_small b) in
-    let e : (byte_of b + 2 * y) / 2 ^ suc k ≡ y / 2 ^ k = rw (pow-succ' 2 k, ← div-div-eq-div-mul (byte_of b + 2 * y) 2 (2 ^ k), half) in
+    let half : (from_bool b + 2 * y) / 2 ≡ y = omega (arith, byte_small b) in
+    let e : (from_bool b + 2 * y) / 2 ^ suc k ≡ y / 2 ^ k = rw (pow-succ' 2 k, ← div-div-eq-div-mul (from_bool b + 2 * y) 2 (2 ^ k), half) in
     let next : 1 + k ≡ suc k = omega arith in
     let own : get_or (drop 1 bits) k false ≡ get_or bits (suc k) false = rw (get_or-drop, next) in
     rw (e, ← own) (bits_flag n (drop 1 bits) k (omega arith))
 
--- What holds place by place, one place more
-
-pub one_more : (P : ℕ → Type 0) (n : ℕ) → ((i : ℕ) → i < n → P i) → P n → (i : ℕ) → i < n + 1 → P i
-one_more P n below own i h = ⊎_elim (λ e. subst P (sym e) own) (below i) (eq-or-lt_of_le {n = i} {m = n} (omega arith))
-
--- a store at the next place
-set_more : {A : Type 0} (d : A) (xs : List A) (own : ℕ → A) (n : ℕ) → n < length xs → ((i : ℕ) → i < n → get_or xs i d ≡ own i)
-    → (v : A) → v ≡ own n → (i : ℕ) → i < n + 1 → get_or (set xs n v) i d ≡ own i
-set_more d xs own n inside below v e =
-    one_more (λ i. get_or (set xs n v) i d ≡ own i) n
-    (λ i h. get_or-set_other xs n i v d (λ q. absurd (omega arith)) ∙ below i h)
-    (get_or-set_same xs n v d inside ∙ e)
+-- so many bits are those of a part of so many
+bits_taken : (n : ℕ) (bits : List Bool) → bits_value n (take n bits) ≡ bits_value n bits
+unfolding bits_value
+bits_taken zero bits = refl
+bits_taken (suc n) [] = refl
+bits_taken (suc n) (b ∷ bits) = rw (bits_taken n bits)
 
 -- The bytes of registers
-
-pub half_high : (counter which : ℕ) → (which ≡ 0 → ⊥) → counter / byte_values ≡ half_of counter which
-half_high counter zero h = absurd (h refl)
-half_high counter (suc n) h = refl
 
 module _ (r : Registers) where
   pub key_counter : (j : ℕ) → j < counter_bytes → key_byte r j ≡ half_of (get_or r.counters (j / counter_size) 0) (j % counter_size)
@@ -99,51 +121,28 @@ module _ (r : Registers) where
       let odd : (2 * i + 1) % 2 ≡ 1 = omega arith in
       rw (key_counter (2 * i + 1) (omega arith), half, odd)
 
--- The first n of the bytes are written
+-- a counter's two bytes as `to_le_bytes` gives them
+pub half_bytes : (counter which : ℕ) → counter < 2 ^ 16 → which < counter_size → get_or (to_le_bytes w16 counter) which 0 ≡ half_of counter which
+half_bytes counter zero small less = refl
+half_bytes counter (suc zero) small less = omega arith
+half_bytes counter (suc (suc which)) small less = absurd (omega arith)
 
-pub record Writes (r : Registers) (before after : List ℕ) (n : ℕ) : Type 0 where
-  pub most : n ≤ key_bytes
-  pub own : (j : ℕ) → j < n → get_or after j 0 ≡ key_byte r j
-  pub others : (j : ℕ) → n ≤ j → get_or after j 0 ≡ get_or before j 0
-  pub same : length after ≡ length before
+-- the delay bits that a byte keeps
+pub delays_chunk : (delays : List Bool) (count n : ℕ) (d : List Bool) → n < count
+    → bits_value byte_bits (get_or (first_chunks byte_bits count delays) n d) ≡ bits_value byte_bits (drop (byte_bits * n) delays)
+delays_chunk delays count n d h =
+    let place : n * byte_bits ≡ byte_bits * n = omega arith in
+    rw (chunk_at byte_bits count delays n d h, bits_taken, place)
 
-pub writes_first : (r : Registers) (bytes : List ℕ) → Writes r bytes bytes 0
-writes_first r bytes = record { most = omega arith; own = λ j h. absurd (omega arith); others = λ j h. refl; same = refl }
-
-module _ {r : Registers} {before after : List ℕ} {n : ℕ} (w : Writes r before after n) where
-  pub writes_more : n < key_bytes → key_bytes ≤ length before → (v : ℕ) → v ≡ key_byte r n → Writes r before (set after n v) (n + 1)
-  writes_more h room v e =
-      record {
-        most = omega arith;
-        own = set_more 0 after (key_byte r) n (omega (arith, w.same)) w.own v e;
-        others = λ j l. get_or-set_other after n j v 0 (λ q. absurd (omega arith)) ∙ w.others j (omega arith);
-        same = length-set after n v ∙ w.same;
-      }
-
-  pub writes_all : key_bytes ≤ n → Whole r → KeyWritten r before after
-  writes_all h whole =
-      record {
-        keeps = record { whole = whole; own = λ j l. w.own j (omega arith) };
-        others = λ j l. w.others j (omega (arith, w.most));
-        same = w.same;
-      }
-
--- One counter more, and one delay bit more, is read
-
-pub counters_more : {bytes counters : List ℕ} {n : ℕ} → CountersOf bytes counters n → n < limits.counters
-    → (v : ℕ) → v ≡ counter_in bytes n → CountersOf bytes (set counters n v) (n + 1)
-counters_more {bytes} {counters} {n} k h v e =
-    record {
-      all = length-set counters n v ∙ k.all;
-      own = set_more 0 counters (counter_in bytes) n (omega (arith, k.all)) k.own v e;
-    }
-
+-- One delay bit more is read
 pub delays_more : {bytes : List ℕ} {delays : List Bool} {n : ℕ} → DelaysOf bytes delays n → n < limits.delays
     → (v : Bool) → v ≡ delay_in bytes n → DelaysOf bytes (set delays n v) (n + 1)
 delays_more {bytes} {delays} {n} k h v e =
     record {
       all = length-set delays n v ∙ k.all;
-      own = set_more false delays (delay_in bytes) n (omega (arith, k.all)) k.own v e;
+      own = below_more (λ i. get_or (set delays n v) i false ≡ delay_in bytes i) n
+          (λ i l. get_or-set_other delays n i v false (λ q. absurd (omega arith)) ∙ k.own i l)
+          (get_or-set_same delays n v false (omega (arith, k.all)) ∙ e);
     }
 
 -- What is read is what is kept
@@ -202,50 +201,46 @@ kept_by read kept k = registers_one read (keeps_in k)
 pub keeps_one : (bytes : List ℕ) (r s : Registers) → Keeps bytes r → Keeps bytes s → r ≡ s
 keeps_one bytes r s h k = registers_one (keeps_in h) (keeps_in k)
 
--- A record is written: behind the registers come the link's bytes, the frame byte, and the bytes of the record before it in its bucket
+-- Bytes have a key in front exactly if so many of them are the key
+pub key_front : (key bytes : List ℕ) → length key ≡ key_bytes → key_bytes ≤ length bytes
+    → (take key_bytes bytes ≡ key → HasKey key bytes) × (HasKey key bytes → take key_bytes bytes ≡ key)
+key_front key bytes whole long =
+    let taken = length-take-le key_bytes bytes long in (
+      λ e j h. sym (get_or-take key_bytes bytes j 0 h) ∙ ap (λ x. get_or x j 0) e,
+      λ has. ext_get_or 0 (take key_bytes bytes) key (taken ∙ sym whole) (λ i h.
+          let inside : i < key_bytes = omega (arith, taken) in
+          get_or-take key_bytes bytes i 0 inside ∙ has i inside),
+    )
 
--- the three bytes of a link
-pub link_stored : (bytes : List ℕ) (at link : ℕ) → at + link_size ≤ length bytes
-    → LinkWritten at link bytes
-    (set (set (set bytes at (link % byte_values)) (at + 1) (link / byte_values % byte_values)) (at + 2) (link / (byte_values * byte_values)))
-link_stored bytes at link room =
-    let low = link % byte_values in
-    let middle = link / byte_values % byte_values in
-    let high = link / (byte_values * byte_values) in
-    let one = set bytes at low in
-    let two = set one (at + 1) middle in
-    let long : length one ≡ length bytes = length-set bytes at low in
-    let longer : length two ≡ length bytes = length-set one (at + 1) middle ∙ long in
-    let apart : (j : ℕ) → (j ≡ at + 2 → ⊥) → (j ≡ at + 1 → ⊥) → get_or (set two (at + 2) high) j 0 ≡ get_or one j 0 =
-    λ j c b. get_or-set_other two (at + 2) j high 0 c ∙ get_or-set_other one (at + 1) j middle 0 b in
-    let first = apart at (λ q. absurd (omega arith)) (λ q. absurd (omega arith)) ∙ get_or-set_same bytes at low 0 (omega arith) in
-    let second = get_or-set_other two (at + 2) (at + 1) high 0 (λ q. absurd (omega arith)) ∙ get_or-set_same one (at + 1) middle 0 (omega arith) in
-    let third = get_or-set_same two (at + 2) high 0 (omega arith) in
-    let other : (j : ℕ) → (j ≡ at → ⊥) → (j ≡ at + 1 → ⊥) → (j ≡ at + 2 → ⊥) → get_or (set two (at + 2) high) j 0 ≡ get_or bytes j 0 =
-    λ j a b c. apart j c b ∙ get_or-set_other bytes at j low 0 a in
-    record {
-      own = omega (arith, first, second, third);
-      below = λ j l. other j (λ q. absurd (omega arith)) (λ q. absurd (omega arith)) (λ q. absurd (omega arith));
-      behind = λ j l. other j (λ q. absurd (omega arith)) (λ q. absurd (omega arith)) (λ q. absurd (omega arith));
-      same = length-set two (at + 2) high ∙ longer;
-    }
+-- Bytes with a key in front keep what the key keeps
+pub key_kept : {r : Registers} {key bytes : List ℕ} → Keeps key r → HasKey key bytes → Keeps bytes r
+key_kept k same = record { whole = k.whole; own = λ j h. same j h ∙ k.own j h }
 
--- the parts of a record
-pub written_all : {r : Registers} {before keyed linked after : List ℕ} {link frame chain : ℕ} → KeyWritten r before keyed
-    → LinkWritten link_place link keyed linked
-    → LinkWritten chain_place chain (set linked frame_place frame) after → length before ≡ limits.record_bytes → Written r link frame chain before after
-written_all {linked} {after} {frame} k l c all =
-    let one_set : (j : ℕ) → (j ≡ frame_place → ⊥) → get_or (set linked frame_place frame) j 0 ≡ get_or linked j 0 = λ j h.
+-- and bytes that keep it have the key in front
+pub kept_key : {r : Registers} {key bytes : List ℕ} → Keeps key r → Keeps bytes r → HasKey key bytes
+kept_key k keeps j h = keeps.own j h ∙ sym (k.own j h)
+
+-- Equal bytes give equal links
+pub link_same : (at : ℕ) (a c : List ℕ) → ((j : ℕ) → at ≤ j → j < at + link_size → get_or a j 0 ≡ get_or c j 0) → link_at at a ≡ link_at at c
+link_same at a c same = rw (same at (omega arith) (omega arith), same (at + 1) (omega arith) (omega arith), same (at + 2) (omega arith) (omega arith))
+
+-- A record is written: a key in front, then the link, the frame byte, and the record before it in its bucket
+pub written : {key before linked after : List ℕ} {link chain : Option ℕ} {frame : ℕ} → length key ≡ key_bytes → length before ≡ limits.record_bytes
+    → LinkWritten link_place link (key ++ drop key_bytes before) linked → LinkWritten chain_place chain (set linked frame_place frame) after
+    → Written key link frame chain before after
+written {key} {before} {linked} {after} {frame = frame} whole long l c =
+    let rest = drop key_bytes before in
+    let all : length (key ++ rest) ≡ length before = rw (length-append, length-drop) (omega arith) in
+    let set_other : (j : ℕ) → (j ≡ frame_place → ⊥) → get_or (set linked frame_place frame) j 0 ≡ get_or linked j 0 = λ j h.
     get_or-set_other linked frame_place j frame 0 h in
-    let under : (j : ℕ) → j < frame_place → get_or after j 0 ≡ get_or linked j 0 = λ j h. c.below j (omega arith) ∙ one_set j (λ q. absurd (omega arith)) in
+    let under : (j : ℕ) → j < frame_place → get_or after j 0 ≡ get_or linked j 0 = λ j h. c.below j (omega arith) ∙ set_other j (λ q. absurd (omega arith)) in
     record {
-      has =
-          record {
-            keeps = record { whole = k.keeps.whole; own = λ j h. under j (omega arith) ∙ l.below j h ∙ k.keeps.own j h };
-            own_link = omega (arith, l.own, under link_place (omega arith), under (link_place + 1) (omega arith), under (link_place + 2) (omega arith));
-            own_frame = c.below frame_place (omega arith) ∙ get_or-set_same linked frame_place frame 0 (omega (arith, l.same, k.same));
-          };
+      own_key = λ j h. under j (omega arith) ∙ l.below j h ∙ get_or-append key rest 0 j (omega arith);
+      own_link = link_same link_place after linked (λ j low high. under j (omega arith)) ∙ l.own;
+      own_frame = c.below frame_place (omega arith) ∙ get_or-set_same linked frame_place frame 0 (omega (arith, l.same, all));
       own_chain = c.own;
-      behind = λ j h. c.behind j (omega arith) ∙ one_set j (λ q. absurd (omega arith)) ∙ l.behind j (omega arith) ∙ k.others j (omega arith);
-      same = c.same ∙ length-set linked frame_place frame ∙ l.same ∙ k.same;
+      behind = λ j h. c.behind j (omega arith) ∙ set_other j (λ q. absurd (omega arith)) ∙ l.behind j (omega arith)
+          ∙ get_or-append_right key rest key_bytes j 0 whole (omega arith) ∙ get_or-drop key_bytes before (j - key_bytes) 0
+          ∙ ap (λ x. get_or before x 0) (omega arith);
+      same = c.same ∙ length-set linked frame_place frame ∙ l.same ∙ all;
     }

@@ -2,23 +2,24 @@
 -- look-up walks down the chain of the key's bucket (`Looking`); a store writes a record and then its bucket's head, so the record goes in front of its bucket.
 use mathlib.Core.Path.{◌≡◌, ap, sym, subst, ◌∙◌}
 use mathlib.Core.Logic.{by_cases}
-use mathlib.Core.Bool.{true, false}
 use mathlib.Core.List.{List, ◌++◌}
-use Prim.Native.Nat.{ℕ, ◌+◌, ◌*◌, ◌-◌, ◌/◌, ◌≤◌, ◌<◌}
+use Prim.Native.Nat.{ℕ, ◌+◌, ◌*◌, ◌-◌, ◌/◌, ◌<◌}
 use native.Mathlib.Decide.{dec_lt, ℕ_discrete}
 use native.Mathlib.Omega.{arith}
 use borrow.Rule.Slice.PartMut.{mid_of, put_mid, same_len_mid, mid_len, drop_put}
 use lib.ListN.{length, get_or, take, drop, length-take, length-drop, take-append-drop, get_or-eq_default}
 use lib.Seq.{get_or-take, get_or-drop, length-take-le, take-append-le, drop-append-le, take_at, drop_at, drop-drop}
+use Rattle.std.proofs.Common.{Option, Some, None}
 use Rattle.ground.specs.Limits.{limits}
 use Rattle.sequencer.specs.declared.registers.Registers.{Registers}
-use Rattle.table.proofs.Chains.{Down, chained_none, walk_first, walk_less, walk_more, walk_all, chained_more}
+use Rattle.table.specs.Inner.Chains.{LastIn}
 use Rattle.table.specs.Inner.Index.{bucket_of, bucket_at, head_at, chain_at, Indexed, IndexedBy}
-use Rattle.table.specs.Inner.Records.{byte_at, Keeps, KeyOf, SameKey, link_at, link_place, chain_place, head_place, LinkWritten, Has, Written, record_at}
+use Rattle.table.specs.Inner.Records.{byte_at, Keeps, HasKey, link_place, chain_place, head_place, LinkWritten, Has, Written, record_at}
 use Rattle.table.specs.Inner.Records.{room_in, frame_place}
 use Rattle.table.specs.Inner.Tables.{HasRoom, Filled, Looks, CanStore, Stores}
-use Rattle.table.specs.declared.Look.{Look}
-use Rattle.table.proofs.Words.{bucket_same, key_same, key_other, key_bucket}
+use Rattle.table.proofs.Chains.{Down, height, last_lower, chained_none, walk_first, walk_more, chained_more}
+use Rattle.table.proofs.Keys.{bucket_same, key_bucket}
+use Rattle.table.proofs.Records.{key_kept, kept_key, link_same}
 
 -- Where a record begins, and how long the part from there to its end is, as lending writes it
 abbrev start_of : ℕ → ℕ
@@ -52,62 +53,55 @@ module _ (table : List ℕ) (zero : (j : ℕ) → get_or table j 0 ≡ 0) where
   pub indexed_none : Indexed table 0
   indexed_none =
       chained_none _ _ _ (room_in table)
-      (λ b h. omega (arith, zero_record b head_place, zero_record b (head_place + 1), zero_record b (head_place + 2)))
+      (λ b h. rw (zero_record b head_place, zero_record b (head_place + 1), zero_record b (head_place + 2)))
 
--- A look-up on its way down the chain of a key's bucket: at is the next record's number and one more, or 0; none that it has passed keeps the key's registers
-pub record Looking (table key : List ℕ) (bucket at : ℕ) : Type 0 where
+-- A look-up on its way down the chain of a key's bucket: it is at the next record, if any, and none that it has passed keeps the key's registers
+pub record Looking (table key : List ℕ) (bucket : ℕ) (next : Option ℕ) : Type 0 where
   pub own : bucket ≡ bucket_of (room_in table) (byte_at key)
-  pub walk : (r : Registers) → KeyOf r key → (stored : ℕ) → Filled table stored
-      → Down (bucket_at (room_in table) table) (λ n. Keeps (record_at table n) r) bucket stored at
+  pub walk : (r : Registers) → Keeps key r → (stored : ℕ) → Filled table stored
+      → Down (λ n. bucket_at (room_in table) table n ≡ bucket) (λ n. Keeps (record_at table n) r) stored next
 
 module _ (table key : List ℕ) (bucket : ℕ) where
   -- all records that keep the key's registers are in its bucket
-  in_bucket : bucket ≡ bucket_of (room_in table) (byte_at key) → (r : Registers) → KeyOf r key → (n : ℕ) → Keeps (record_at table n) r
+  in_bucket : bucket ≡ bucket_of (room_in table) (byte_at key) → (r : Registers) → Keeps key r → (n : ℕ) → Keeps (record_at table n) r
       → bucket_at (room_in table) table n ≡ bucket
   in_bucket e r k n keeps = key_bucket r key k (record_at table n) (room_in table) keeps ∙ sym e
 
-  pub looking_first : (at : ℕ) → bucket ≡ bucket_of (room_in table) (byte_at key) → bucket < room_in table → at ≡ head_at table bucket → Looking table key
-      bucket at
-  looking_first at e inside head =
+  pub looking_first : (next : Option ℕ) → bucket ≡ bucket_of (room_in table) (byte_at key) → bucket < room_in table → next ≡ head_at table bucket
+      → Looking table key bucket next
+  looking_first next e inside head =
       record {
         own = e;
-        walk = λ r k stored filled. subst (λ x. Down (bucket_at (room_in table) table) (λ n. Keeps (record_at table n) r) bucket stored x) (sym head)
-            (walk_first filled.indexed (λ n. Keeps (record_at table n) r) bucket (λ n h. in_bucket e r k n) inside);
+        walk = λ r k stored filled. rw head (walk_first (λ n h. in_bucket e r k n) (head_at table bucket) (filled.indexed.heads bucket inside));
       }
 
-  module _ {at : ℕ} (w : Looking table key bucket at) where
-    pub looks_nowhere : at ≡ 0 → (r : Registers) → KeyOf r key → (stored : ℕ) → Filled table stored → Looks table stored r Look.Nowhere
-    looks_nowhere end r k stored filled =
-        walk_all filled.indexed (λ n. Keeps (record_at table n) r) bucket (λ n h. in_bucket w.own r k n) (w.walk r k stored filled) end
+  pub looks_none : {next : Option ℕ} → Looking table key bucket next → next ≡ None → (r : Registers) → Keeps key r → (stored : ℕ) → Filled table stored
+      → Looks table stored r None
+  looks_none w is r k stored filled = rw is at (w.walk r k stored filled)
 
-    module _ (more : at ≡ 0 → ⊥) where
-      pub looks_at : SameKey (record_at table (at - 1)) key true → (r : Registers) → KeyOf r key → (stored : ℕ) → Filled table stored
-          → Looks table stored r (Look.At (at - 1))
-      looks_at same r k stored filled =
-          let down = w.walk r k stored filled in
-          (omega (arith, down.upto), key_same r key k (record_at table (at - 1)) same, λ m above. down.missed m (omega arith))
+  module _ {next : Option ℕ} {n : ℕ} (w : Looking table key bucket next) (is : next ≡ Some n) where
+    module _ (r : Registers) (k : Keeps key r) (stored : ℕ) (filled : Filled table stored) where
+      -- the walk is at a record
+      here : Down (λ m. bucket_at (room_in table) table m ≡ bucket) (λ m. Keeps (record_at table m) r) stored (Some n)
+      here = rw is at (w.walk r k stored filled)
 
-      pub looking_more : (next : ℕ) → SameKey (record_at table (at - 1)) key false → next ≡ chain_at table (at - 1) → Looking table key bucket next
-      looking_more next miss chain =
-          record {
-            own = w.own;
-            walk = λ r k stored filled. subst (λ x. Down (bucket_at (room_in table) table) (λ n. Keeps (record_at table n) r) bucket stored x) (sym chain)
-                (walk_more filled.indexed (λ n. Keeps (record_at table n) r) bucket (λ n h. in_bucket w.own r k n) (w.walk r k stored filled) more
-                (key_other r key k (record_at table (at - 1)) miss));
-          }
+      -- the record before it in its bucket
+      before : LastIn (bucket_at (room_in table) table) bucket n (chain_at table n)
+      before = subst (λ b. LastIn (bucket_at (room_in table) table) b n (chain_at table n)) here.1 (filled.indexed.links n here.0)
 
-      module _ (r : Registers) (k : KeyOf r key) (stored : ℕ) (filled : Filled table stored) where
-        -- the next record lies inside the table
-        pub looking_inside : at - 1 < room_in table
-        looking_inside = omega (arith, (w.walk r k stored filled).upto, filled.inside)
+      pub looking_less : (more : Option ℕ) → more ≡ chain_at table n → height more < height next
+      looking_less more chain = rw (chain, is) (omega (arith, last_lower _ (chain_at table n) before))
 
-        pub looking_less : (next : ℕ) → next ≡ chain_at table (at - 1) → next < at
-        looking_less next chain =
-            omega (
-              arith,
-              walk_less filled.indexed (λ n. Keeps (record_at table n) r) bucket (λ n h. in_bucket w.own r k n)
-                  (w.walk r k stored filled) more,
-            )
+    pub looks_some : HasKey key (record_at table n) → (r : Registers) → Keeps key r → (stored : ℕ) → Filled table stored → Looks table stored r (Some n)
+    looks_some same r k stored filled = let (less, own, passed) = here r k stored filled in (less, key_kept k same, passed)
+
+    pub looking_more : (more : Option ℕ) → (HasKey key (record_at table n) → ⊥) → more ≡ chain_at table n → Looking table key bucket more
+    looking_more more miss chain =
+        record {
+          own = w.own;
+          walk = λ r k stored filled. rw chain (walk_more (λ m h. in_bucket w.own r k m) (here r k stored filled) (λ keeps. miss (kept_key k keeps))
+              (chain_at table n) (before r k stored filled));
+        }
 
 -- Bytes put in the place of a record, as lending writes it
 abbrev put : List ℕ → ℕ → List ℕ → List ℕ
@@ -150,12 +144,8 @@ module _ (xs ys : List ℕ) (n : ℕ) (inside : n < room_in xs) (whole : length 
   put_length : length (put xs n ys) ≡ length xs
   put_length = same_len_mid (start_of n) (size_of n) xs ys (omega (arith, mid_len (start_of n) (start_of n + limits.record_bytes) xs (omega arith)))
 
--- Equal bytes give equal links
-pub link_same : (at : ℕ) (a c : List ℕ) → ((j : ℕ) → at ≤ j → j < at + 3 → get_or a j 0 ≡ get_or c j 0) → link_at at a ≡ link_at at c
-link_same at a c same = rw (same at (omega arith) (omega arith), same (at + 1) (omega arith) (omega arith), same (at + 2) (omega arith) (omega arith))
-
 -- What writing the head of a bucket leaves: of its record the bytes in front, and all other records
-module _ (xs ys : List ℕ) (b link : ℕ) (inside : b < room_in xs) (w : LinkWritten head_place link (record_at xs b) ys) where
+module _ (xs ys : List ℕ) (b : ℕ) (link : Option ℕ) (inside : b < room_in xs) (w : LinkWritten head_place link (record_at xs b) ys) where
   head_whole : length ys ≡ limits.record_bytes
   head_whole = w.same ∙ record_length xs b inside
 
@@ -170,9 +160,9 @@ module _ (xs ys : List ℕ) (b link : ℕ) (inside : b < room_in xs) (w : LinkWr
   head_other m other = rw (put_other xs ys b inside head_whole m other)
 
 -- What a store leaves: ys are the record that is written, zs that of the bucket's head
-module _ (xs ys zs key : List ℕ) (n b link frame chain : ℕ) (r : Registers) (can : CanStore xs n link) (k : KeyOf r key)
+module _ (xs ys zs key : List ℕ) (n b frame : ℕ) (link chain : Option ℕ) (r : Registers) (can : CanStore xs n link) (k : Keeps key r)
     (own : b ≡ bucket_of (room_in xs) (byte_at key)) (b-inside : b < room_in xs) (old_head : chain ≡ head_at xs b)
-    (w : Written r link frame chain (record_at xs n) ys) (h : LinkWritten head_place (n + 1) (record_at (put xs n ys) b) zs) where
+    (w : Written key link frame chain (record_at xs n) ys) (h : LinkWritten head_place (Some n) (record_at (put xs n ys) b) zs) where
   inside : n < room_in xs
   inside = can.inside
 
@@ -187,11 +177,11 @@ module _ (xs ys zs key : List ℕ) (n b link frame chain : ℕ) (r : Registers) 
 
   -- the new record, in front of its head
   new_below : (j : ℕ) → j < head_place → get_or (record_at end n) j 0 ≡ get_or ys j 0
-  new_below j l = head_below (put xs n ys) zs b (n + 1) head_inside h n j l ∙ ap (λ x. get_or x j 0) (put_own xs ys n inside whole)
+  new_below j l = head_below (put xs n ys) zs b (Some n) head_inside h n j l ∙ ap (λ x. get_or x j 0) (put_own xs ys n inside whole)
 
   -- another record, in front of its head
   old_below : (m : ℕ) → m < n → (j : ℕ) → j < head_place → get_or (record_at end m) j 0 ≡ get_or (record_at xs m) j 0
-  old_below m less j l = head_below (put xs n ys) zs b (n + 1) head_inside h m j l ∙ ap (λ x. get_or x j 0)
+  old_below m less j l = head_below (put xs n ys) zs b (Some n) head_inside h m j l ∙ ap (λ x. get_or x j 0)
       (put_other xs ys n inside whole m (λ e. omega arith))
 
   -- the record's own write leaves all heads
@@ -203,13 +193,13 @@ module _ (xs ys zs key : List ℕ) (n b link frame chain : ℕ) (r : Registers) 
   has : Has (record_at end n) r link frame
   has =
       record {
-        keeps = record { whole = w.has.keeps.whole; own = λ j l. new_below j (omega arith) ∙ w.has.keeps.own j l };
-        own_link = link_same link_place (record_at end n) ys (λ j l u. new_below j (omega arith)) ∙ w.has.own_link;
-        own_frame = new_below frame_place (omega arith) ∙ w.has.own_frame;
+        keeps = key_kept k (λ j l. new_below j (omega arith) ∙ w.own_key j l);
+        own_link = link_same link_place (record_at end n) ys (λ j l u. new_below j (omega arith)) ∙ w.own_link;
+        own_frame = new_below frame_place (omega arith) ∙ w.own_frame;
       }
 
   same : length end ≡ length xs
-  same = put_length (put xs n ys) zs b head_inside (head_whole (put xs n ys) zs b (n + 1) head_inside h) ∙ put_length xs ys n inside whole
+  same = put_length (put xs n ys) zs b head_inside (head_whole (put xs n ys) zs b (Some n) head_inside h) ∙ put_length xs ys n inside whole
 
   more : Indexed xs n → IndexedBy (room_in xs) end (n + 1)
   more indexed =
@@ -219,8 +209,8 @@ module _ (xs ys zs key : List ℕ) (n b link frame chain : ℕ) (r : Registers) 
       (key_bucket r key k (record_at end n) (room_in xs) has.keeps ∙ sym own)
       b-inside
       (link_same chain_place (record_at end n) ys (λ j l u. new_below j (omega arith)) ∙ w.own_chain ∙ old_head)
-      (head_own (put xs n ys) zs b (n + 1) head_inside h)
-      (λ x l other. head_other (put xs n ys) zs b (n + 1) head_inside h x other ∙ heads_same x)
+      (head_own (put xs n ys) zs b (Some n) head_inside h)
+      (λ x l other. head_other (put xs n ys) zs b (Some n) head_inside h x other ∙ heads_same x)
 
   pub stores : Stores xs end n r link frame
   stores =

@@ -7,42 +7,29 @@ mod record;
 
 ghost use Rattle.std.specs.Prelude.{◌≡◌, ℕ, ◌<◌, length, replicate};
 ghost use Rattle.table.specs.Room.{room_of};
-ghost use Rattle.table.specs.Inner.Records.{RegistersIn, link_in, frame_in, record_at, room_in, OneRecord};
+ghost use Rattle.table.specs.Inner.Records.{RegistersIn, link_in, frame_in, record_at, room_in};
 ghost use Rattle.table.specs.Inner.Tables.{Filled, Looks, CanStore, Stores};
 
 use crate::index::bucket_of;
 use crate::record::{
-    CHAIN, HEAD, LINK, frame_of, key_of, read_link, registers_of, same_key, write_link,
-    write_record,
+    CHAIN, FRAME, HEAD, LINK, key_of, read_link, registers_of, same_key, write_link, write_record,
 };
 use ground::limits::{MOST_RECORDS, RECORD};
 use sequencer::registers::Registers;
-
-// What a look-up answers: the number of the last record that keeps these registers, or none.
-#[derive(Clone, Copy)]
-pub enum Look {
-    At(usize),
-    Nowhere,
-}
 
 // How many records a table has.
 pub fn room_of(table: &[u8]) -> usize
     ensures { result ≡ room_of table.now }
 {
-    let records = table.len() / RECORD;
-    if records < MOST_RECORDS {
-        return records;
-    }
-    MOST_RECORDS
+    (table.len() / RECORD).min(MOST_RECORDS)
 }
 
 // A record of a table, by its number.
-fn record_at(table: &[u8], n: usize) -> &[u8]
+fn record_at(table: &[u8], n: usize) -> &[u8; RECORD]
     requires { n < room_in table.now }
-    ensures { OneRecord table.now n result.now }
+    ensures { result.now ≡ record_at table.now n }
 {
-    let base = n * RECORD;
-    &table[base..base + RECORD]
+    &table.as_chunks().0[n]
 }
 
 // The registers that a record keeps.
@@ -53,8 +40,8 @@ pub fn registers_at(table: &[u8], n: usize) -> Registers
     registers_of(record_at(table, n))
 }
 
-// The link of a record: the number of the record that it came from and one more, or 0.
-pub fn link_at(table: &[u8], n: usize) -> usize
+// The number of the record that a record came from, if any.
+pub fn link_at(table: &[u8], n: usize) -> Option<usize>
     requires { n < room_in table.now }
     ensures { result ≡ link_in (record_at table.now n) }
 {
@@ -66,55 +53,46 @@ pub fn frame_at(table: &[u8], n: usize) -> u8
     requires { n < room_in table.now }
     ensures { result ≡ frame_in (record_at table.now n) }
 {
-    frame_of(record_at(table, n))
+    record_at(table, n)[FRAME]
 }
 
-// Looks registers up among the records that are in the index, down the chain of their bucket.
-pub fn find(table: &[u8], registers: Registers) -> Look
+// Looks registers up among the records that are in the index, down the chain of their bucket: the number of the last
+// record that keeps them, if any does.
+pub fn find(table: &[u8], registers: Registers) -> Option<usize>
     requires { (stored : ℕ) × Filled table.now stored }
     ensures { (stored : ℕ) → Filled table.now stored → Looks table.now stored registers result }
 {
     let key = key_of(registers);
     let bucket = bucket_of(&key, table.len() / RECORD);
-    let mut at = read_link(record_at(table, bucket), HEAD);
-    while at != 0 {
-        let n = at - 1;
+    let mut next = read_link(record_at(table, bucket), HEAD);
+    while let Some(n) = next {
         let bytes = record_at(table, n);
         if same_key(bytes, &key) {
-            return Look::At(n);
+            return Some(n);
         }
-        at = read_link(bytes, CHAIN);
+        next = read_link(bytes, CHAIN);
     }
-    Look::Nowhere
+    None
 }
 
-// Stores a state as the record of a number, and puts it in front of the chain of its bucket.
-pub fn store(table: &mut [u8], n: usize, registers: Registers, link: usize, frame: u8)
-    requires { CanStore table.old n link }
-    ensures { Stores table.old table.new n registers link frame }
+// Stores a state as the record of a number, with the number of the record that it came from, if any, and puts it in
+// front of the chain of its bucket.
+pub fn store(table: &mut [u8], n: usize, registers: Registers, from: Option<usize>, frame: u8)
+    requires { CanStore table.old n from }
+    ensures { Stores table.old table.new n registers from frame }
 {
     let key = key_of(registers);
     let bucket = bucket_of(&key, table.len() / RECORD);
     let head = read_link(record_at(&table[..], bucket), HEAD);
     let base = n * RECORD;
-    write_record(
-        &mut table[base..base + RECORD],
-        registers,
-        link,
-        frame,
-        head,
-    );
+    write_record(&mut table[base..base + RECORD], &key, from, frame, head);
     let first = bucket * RECORD;
-    write_link(&mut table[first..first + RECORD], HEAD, n + 1);
+    write_link(&mut table[first..first + RECORD], HEAD, Some(n));
 }
 
 // Makes every byte 0.
 pub fn clear(table: &mut [u8])
     ensures { table.new ≡ replicate (length table.old) 0 }
 {
-    let mut i = 0;
-    while i < table.len() {
-        table[i] = 0;
-        i += 1;
-    }
+    table.fill(0);
 }

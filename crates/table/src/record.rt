@@ -2,210 +2,100 @@
 // delay bit), the link to the record that it came from (three bytes: its number and one more, or 0), and the frame byte
 // that led here. Behind them stands a part of the index, in the form of the link: the record before this one in its
 // bucket, and the last record of the bucket that has this record's number.
-ghost use Rattle.std.specs.Prelude.{◌≡◌, ◌+◌, ◌*◌, ◌≤◌, ◌<◌, length, drop};
+ghost use Rattle.std.specs.Prelude.{◌≡◌, ◌↔◌, ◌+◌, ◌≤◌, ◌<◌, IsTrue, length};
 ghost use Rattle.ground.specs.Limits.{limits};
-ghost use Rattle.table.specs.Inner.Records.{byte_bits, word_bytes, key_bytes, word_of_eight, link_size, nibble_of};
-ghost use Rattle.table.specs.Inner.Records.{bits_value, half_of, key_byte, byte_at, word_of, most_link, Whole};
-ghost use Rattle.table.specs.Inner.Records.{RegistersIn, KeyWord, KeyOf, SameKey, KeyWritten, CountersOf, DelaysOf};
-ghost use Rattle.table.specs.Inner.Records.{link_at, LinkWritten, frame_in, Written};
+ghost use Rattle.table.specs.Inner.Records.{byte_bits, key_bytes, link_size, bits_value, key_byte, link_at, LinkFits};
+ghost use Rattle.table.specs.Inner.Records.{Keeps, HasKey, CountersOf, DelaysOf, RegistersIn, LinkWritten, Written};
 
-use ground::byte::{byte_of, wide};
-use ground::limits::{COUNTERS, DELAYS};
+use ground::limits::{COUNTERS, DELAYS, RECORD};
 use sequencer::registers::Registers;
 
-// How many bits a byte has, and how many values; how many values four bits have.
-pub(crate) const BITS: usize = 8;
-
-const VALUES: u16 = 1 << BITS;
-
-const NIBBLE: u8 = 1 << (BITS / 2);
+// How many bits a byte has.
+const BITS: usize = 8;
 
 // The bytes of a counter, of all counters, and of all registers.
 const COUNTER: usize = 2;
 
 const COUNTER_BYTES: usize = COUNTER * COUNTERS;
 
-const KEY: usize = COUNTER_BYTES + DELAYS / BITS;
+pub(crate) const KEY: usize = COUNTER_BYTES + DELAYS / BITS;
 
-// The bytes of a word, and the words of all registers.
-pub(crate) const WORD: usize = 8;
-
-pub(crate) const WORDS: usize = KEY / WORD;
-
-// The bytes of a link, and what its second and third byte count.
+// The bytes of a link.
 const LINK_BYTES: usize = 3;
-
-const SECOND: usize = VALUES as usize;
-
-const THIRD: usize = SECOND * SECOND;
 
 // Where the link, the frame byte, and the two numbers of the index stand.
 pub(crate) const LINK: usize = KEY;
 
-const FRAME: usize = LINK + LINK_BYTES;
+pub(crate) const FRAME: usize = LINK + LINK_BYTES;
 
 pub(crate) const CHAIN: usize = FRAME + 1;
 
 pub(crate) const HEAD: usize = CHAIN + LINK_BYTES;
 
-// Four bits as a number, the first lowest.
-fn nibble_of(a: bool, b: bool, c: bool, d: bool) -> u8
-    ensures { (result ≡ nibble_of a b c d) × (result < 16) }
-{
-    byte_of(a) + 2 * byte_of(b) + 4 * byte_of(c) + 8 * byte_of(d)
-}
-
 // Eight bits as a byte, the first lowest.
-fn bits_byte(bits: &[bool], at: usize) -> u8
-    requires { at + byte_bits ≤ length bits.now }
-    ensures { result ≡ bits_value byte_bits (drop at bits.now) }
+fn bits_byte(bits: &[bool; BITS]) -> u8
+    ensures { result ≡ bits_value byte_bits bits.now }
 {
-    let low = nibble_of(bits[at], bits[at + 1], bits[at + 2], bits[at + 3]);
-    let high = nibble_of(bits[at + 4], bits[at + 5], bits[at + 6], bits[at + 7]);
-    low + NIBBLE * high
-}
-
-// One of a counter's two bytes.
-fn half_of(counter: u16, which: usize) -> u8
-    ensures { result ≡ half_of counter which }
-{
-    if which == 0 {
-        return (counter % VALUES) as u8;
+    let mut byte = 0;
+    for (k, bit) in bits.iter().enumerate() {
+        byte |= u8::from(*bit) << k;
     }
-    (counter / VALUES) as u8
+    byte
 }
 
 // One of the bytes that keep registers, by its place.
-fn key_byte(counters: &[u16], delays: &[bool], j: usize) -> u8
-    requires { Whole (record { counters = counters.now; delays = delays.now }) × (j < key_bytes) }
-    ensures { result ≡ key_byte (record { counters = counters.now; delays = delays.now }) j }
+fn key_byte(registers: &Registers, j: usize) -> u8
+    requires { j < key_bytes }
+    ensures { result ≡ key_byte registers.now j }
 {
     if j < COUNTER_BYTES {
-        return half_of(counters[j / COUNTER], j % COUNTER);
+        return registers.counters[j / COUNTER].to_le_bytes()[j % COUNTER];
     }
-    bits_byte(delays, BITS * (j - COUNTER_BYTES))
+    bits_byte(&registers.delays.as_chunks().0[j - COUNTER_BYTES])
 }
 
-// Writes the bytes that keep registers.
-fn write_key(registers: Registers, bytes: &mut [u8])
-    requires { key_bytes ≤ length bytes.old }
-    ensures { KeyWritten registers bytes.old bytes.new }
+// The bytes that keep registers.
+pub(crate) fn key_of(registers: Registers) -> [u8; KEY]
+    ensures { Keeps result registers }
 {
-    let counters = registers.counters;
-    let delays = registers.delays;
-    let mut j = 0;
-    while j < KEY {
-        bytes[j] = key_byte(&counters, &delays, j);
-        j += 1;
-    }
-}
-
-// Eight bytes as a word, the first lowest.
-fn eight(a: u8, b: u8, c: u8, d: u8, e: u8, f: u8, g: u8, h: u8) -> u64
-    ensures { result ≡ word_of_eight a b c d e f g h }
-{
-    let values = VALUES as u64;
-    let high = e as u64 + values * (f as u64 + values * (g as u64 + values * h as u64));
-    a as u64 + values * (b as u64 + values * (c as u64 + values * (d as u64 + values * high)))
-}
-
-// One of the words that keep registers.
-fn key_word(counters: &[u16], delays: &[bool], i: usize) -> u64
-    requires { Whole (record { counters = counters.now; delays = delays.now }) × ((i + 1) * word_bytes ≤ key_bytes) }
-    ensures { KeyWord (record { counters = counters.now; delays = delays.now }) i result }
-{
-    let at = WORD * i;
-    eight(
-        key_byte(counters, delays, at),
-        key_byte(counters, delays, at + 1),
-        key_byte(counters, delays, at + 2),
-        key_byte(counters, delays, at + 3),
-        key_byte(counters, delays, at + 4),
-        key_byte(counters, delays, at + 5),
-        key_byte(counters, delays, at + 6),
-        key_byte(counters, delays, at + 7),
-    )
-}
-
-// The words that keep registers.
-pub(crate) fn key_of(registers: Registers) -> [u64; WORDS]
-    ensures { KeyOf registers result }
-{
-    let counters = registers.counters;
-    let delays = registers.delays;
-    let mut key = [0u64; WORDS];
-    let mut i = 0;
-    while i < WORDS {
-        key[i] = key_word(&counters, &delays, i);
-        i += 1;
+    let mut key = [0; KEY];
+    for (j, byte) in key.iter_mut().enumerate() {
+        *byte = key_byte(&registers, j);
     }
     key
 }
 
-// One of a record's words.
-fn word_of(bytes: &[u8], i: usize) -> u64
-    requires { (i + 1) * word_bytes ≤ length bytes.now }
-    ensures { result ≡ word_of (byte_at bytes.now) i }
+// Whether a record keeps the registers whose bytes are given.
+pub(crate) fn same_key(bytes: &[u8; RECORD], key: &[u8; KEY]) -> bool
+    ensures { IsTrue result ↔ HasKey key.now bytes.now }
 {
-    let at = WORD * i;
-    eight(
-        bytes[at],
-        bytes[at + 1],
-        bytes[at + 2],
-        bytes[at + 3],
-        bytes[at + 4],
-        bytes[at + 5],
-        bytes[at + 6],
-        bytes[at + 7],
-    )
-}
-
-// Whether a record keeps the registers whose words are given.
-pub(crate) fn same_key(bytes: &[u8], key: &[u64]) -> bool
-    requires { (key_bytes ≤ length bytes.now) × (key_bytes ≤ word_bytes * length key.now) }
-    ensures { SameKey bytes.now key.now result }
-{
-    let mut word = 0;
-    while word < WORDS {
-        if word_of(bytes, word) != key[word] {
-            return false;
-        }
-        word += 1;
-    }
-    true
+    bytes[..KEY] == key[..]
 }
 
 // The counters that a record keeps.
-fn counters_of(bytes: &[u8]) -> [u16; COUNTERS]
-    requires { key_bytes ≤ length bytes.now }
+fn counters_of(bytes: &[u8; RECORD]) -> [u16; COUNTERS]
     ensures { CountersOf bytes.now result limits.counters }
 {
     let mut counters = [0; COUNTERS];
-    let mut i = 0;
-    while i < COUNTERS {
-        counters[i] = wide(bytes[COUNTER * i]) + wide(bytes[COUNTER * i + 1]) * VALUES;
-        i += 1;
+    for (i, counter) in counters.iter_mut().enumerate() {
+        *counter = u16::from_le_bytes([bytes[COUNTER * i], bytes[COUNTER * i + 1]]);
     }
     counters
 }
 
 // The delay bits that a record keeps.
-fn delays_of(bytes: &[u8]) -> [bool; DELAYS]
-    requires { key_bytes ≤ length bytes.now }
+fn delays_of(bytes: &[u8; RECORD]) -> [bool; DELAYS]
     ensures { DelaysOf bytes.now result limits.delays }
 {
     let mut delays = [false; DELAYS];
-    let mut i = 0;
-    while i < DELAYS {
-        delays[i] = (bytes[COUNTER_BYTES + i / BITS] >> (i % BITS)) % 2 == 1;
-        i += 1;
+    for (i, delay) in delays.iter_mut().enumerate() {
+        *delay = (bytes[COUNTER_BYTES + i / BITS] >> (i % BITS)) % 2 == 1;
     }
     delays
 }
 
 // The registers that a record keeps.
-pub(crate) fn registers_of(bytes: &[u8]) -> Registers
-    requires { key_bytes ≤ length bytes.now }
+pub(crate) fn registers_of(bytes: &[u8; RECORD]) -> Registers
     ensures { RegistersIn bytes.now result }
 {
     Registers {
@@ -214,46 +104,37 @@ pub(crate) fn registers_of(bytes: &[u8]) -> Registers
     }
 }
 
-// A number of three bytes: a link of a record.
-pub(crate) fn read_link(bytes: &[u8], at: usize) -> usize
-    requires { at + link_size ≤ length bytes.now }
-    ensures { (result ≡ link_at at bytes.now) × (result ≤ most_link) }
+// A link of a record: the number of another one, or none.
+pub(crate) fn read_link(bytes: &[u8; RECORD], at: usize) -> Option<usize>
+    requires { at + link_size ≤ limits.record_bytes }
+    ensures { (result ≡ link_at at bytes.now) × LinkFits result }
 {
-    wide(bytes[at]) as usize
-        + wide(bytes[at + 1]) as usize * SECOND
-        + wide(bytes[at + 2]) as usize * THIRD
+    let number = u32::from_le_bytes([bytes[at], bytes[at + 1], bytes[at + 2], 0]);
+    (number as usize).checked_sub(1)
 }
 
-// The frame byte of a record.
-pub(crate) fn frame_of(bytes: &[u8]) -> u8
-    requires { length bytes.now ≡ limits.record_bytes }
-    ensures { result ≡ frame_in bytes.now }
-{
-    bytes[FRAME]
-}
-
-// Writes a number of three bytes: a link of a record.
-pub(crate) fn write_link(bytes: &mut [u8], at: usize, link: usize)
-    requires { (at + link_size ≤ length bytes.old) × (link ≤ most_link) }
+// Writes a link of a record. To a slice: of arrays that a table is lent as to be written, nothing would be known of the
+// table after them.
+pub(crate) fn write_link(bytes: &mut [u8], at: usize, link: Option<usize>)
+    requires { (at + link_size ≤ length bytes.old) × LinkFits link }
     ensures { LinkWritten at link bytes.old bytes.new }
 {
-    bytes[at] = (link % SECOND) as u8;
-    bytes[at + 1] = (link / SECOND % SECOND) as u8;
-    bytes[at + 2] = (link / THIRD) as u8;
+    let number = link.map_or(0, |n| n as u32 + 1);
+    bytes[at..at + LINK_BYTES].copy_from_slice(&number.to_le_bytes()[..LINK_BYTES]);
 }
 
-// Writes a record: registers, link, frame byte, and the record before it in its bucket.
+// Writes a record: the bytes of its registers, its link, its frame byte, and the record before it in its bucket.
 pub(crate) fn write_record(
     bytes: &mut [u8],
-    registers: Registers,
-    link: usize,
+    key: &[u8; KEY],
+    link: Option<usize>,
     frame: u8,
-    chain: usize,
+    chain: Option<usize>,
 )
-    requires { (length bytes.old ≡ limits.record_bytes) × (link ≤ most_link) × (chain ≤ most_link) }
-    ensures { Written registers link frame chain bytes.old bytes.new }
+    requires { (length bytes.old ≡ limits.record_bytes) × LinkFits link × LinkFits chain }
+    ensures { Written key.now link frame chain bytes.old bytes.new }
 {
-    write_key(registers, &mut *bytes);
+    bytes[..KEY].copy_from_slice(key);
     write_link(&mut *bytes, LINK, link);
     bytes[FRAME] = frame;
     write_link(bytes, CHAIN, chain);

@@ -40,10 +40,6 @@ decimal_more n h =
 one_longer : (n : ℕ) → 10 ≤ n → length (decimal n) ≡ length (decimal (n / 10)) + 1
 one_longer n h = rw (decimal_more n h, length-append, one_long (n % 10) (omega arith))
 
--- every number has a digit
-some_digit : (n : ℕ) → 1 ≤ length (decimal n)
-some_digit n = by_cases (dec_lt n 10) (λ small. omega (arith, one_long n small)) λ large. omega (arith, one_longer n (omega arith))
-
 -- at most one digit more than the tenth part has
 at_most_one : (n : ℕ) → length (decimal n) ≤ length (decimal (n / 10)) + 1
 at_most_one n = by_cases (dec_lt n 10) (λ small. omega (arith, one_long n small)) λ large. omega (arith, one_longer n (omega arith))
@@ -54,10 +50,6 @@ five_digits n h =
     let last = one_long (n / 10 / 10 / 10 / 10) (omega arith) in
     omega (arith, last, at_most_one n, at_most_one (n / 10), at_most_one (n / 10 / 10), at_most_one (n / 10 / 10 / 10))
 
--- A word and a number behind it: one digit at least, and the last one behind the others
-module _ (word : List ℕ) (n : ℕ) where
-  pub some_long : 1 ≤ length (word ++ decimal n)
-  some_long = rw length-append (omega (arith, some_digit n))
-
-  pub last_behind : 10 ≤ n → word ++ decimal n ≡ (word ++ decimal (n / 10)) ++ decimal (n % 10)
-  last_behind h = rw (decimal_more n h, append_assoc)
+-- A word and a number behind it: the last digit stands behind the others
+pub last_behind : (word : List ℕ) (n : ℕ) → 10 ≤ n → word ++ decimal n ≡ (word ++ decimal (n / 10)) ++ decimal (n % 10)
+last_behind word n h = rw (decimal_more n h, append_assoc)

@@ -8,7 +8,7 @@ ghost use Rattle.text.specs.Inner.Writing.{Puts};
 
 use ground::buffer::write_bytes;
 
-// A digit: `0` to `9`, then `a` to `f`.
+// A digit: `0` to `9`, then `a` to `f`. Text is made here and not by `Display`, as each of its bytes is stated.
 fn digit(value: u8) -> u8
     requires { value < 16 }
     ensures { result ≡ Digits·digit value }
@@ -30,40 +30,31 @@ fn write_digit(text: &mut [u8], at: usize, n: usize) -> usize
 }
 
 // Writes a word and a number below ten behind it, if so many more bytes fit behind these, and answers the place behind
-// them.
-fn write_first(text: &mut [u8], at: usize, word: &[u8], n: usize, more: usize) -> usize
+// them; else it writes nothing.
+fn write_first(text: &mut [u8], at: usize, word: &[u8], n: usize, more: usize) -> Option<usize>
     requires { n < 10 }
     ensures { WrittenBefore text.old at (word.now ++ decimal n) more text.new result }
 {
-    if text.len() < at {
-        return at;
+    let room = text.len().checked_sub(at)?.checked_sub(more)?;
+    if room <= word.len() {
+        return None;
     }
-    let room = text.len() - at;
-    if room <= more {
-        return at;
-    }
-    if room - more <= word.len() {
-        return at;
-    }
-    let place = write_bytes(&mut *text, at, word);
-    write_digit(text, place, n)
+    let place = write_bytes(text, at, word);
+    Some(write_digit(text, place, n))
 }
 
 // Writes a word and a number behind it, the most significant digit first, if so many more bytes fit behind these, and
-// answers the place behind them. The digits before the last one are those of the number divided by ten, with one byte
-// more behind them.
-fn write_before(text: &mut [u8], at: usize, word: &[u8], n: usize, more: usize) -> usize
+// answers the place behind them; else it writes nothing. The digits before the last one are those of the number divided
+// by ten, with one byte more behind them.
+fn write_before(text: &mut [u8], at: usize, word: &[u8], n: usize, more: usize) -> Option<usize>
     requires { more + n ≤ 2 ^ 64 }
     ensures { WrittenBefore text.old at (word.now ++ decimal n) more text.new result }
 {
     if n < 10 {
         return write_first(text, at, word, n, more);
     }
-    let place = write_before(&mut *text, at, word, n / 10, more + 1);
-    if place == at {
-        return at;
-    }
-    write_digit(text, place, n % 10)
+    let place = write_before(text, at, word, n / 10, more + 1)?;
+    Some(write_digit(text, place, n % 10))
 }
 
 // Writes a number in decimal, and answers the place behind it.
@@ -71,7 +62,7 @@ pub fn write_decimal(text: &mut [u8], at: usize, n: usize) -> usize
     ensures buffer { text.new ≡ written text.old at (decimal n) }
     ensures place { result ≡ place_after text.old at (decimal n) }
 {
-    write_before(text, at, b"", n, 0)
+    write_count(text, at, b"", n)
 }
 
 // Writes a word and a number in decimal behind it, and answers the place behind both.
@@ -79,7 +70,7 @@ pub fn write_count(text: &mut [u8], at: usize, word: &[u8], n: usize) -> usize
     ensures buffer { text.new ≡ written text.old at (word.now ++ decimal n) }
     ensures place { result ≡ place_after text.old at (word.now ++ decimal n) }
 {
-    write_before(text, at, word, n, 0)
+    write_before(text, at, word, n, 0).unwrap_or(at)
 }
 
 // Writes a byte as two hex digits, and answers the place behind them.

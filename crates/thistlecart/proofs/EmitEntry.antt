@@ -12,7 +12,7 @@ use Rattle.rules.proofs.Accepted.{accepted_rule}
 use Rattle.rules.proofs.Places.{rule_place}
 use Rattle.emitter.specs.Emit.{emitted_of, out_after}
 use Rattle.emitter.specs.Translation.{code_bytes}
-use Rattle.emitter.specs.declared.emit.Emitted.{Emitted}
+use Rattle.std.proofs.Common.{Result, Ok, Err}
 use Rattle.emitter.proofs.Accepted.{code_bytes_lem}
 use Rattle.thistlecart.specs.Accessors.{IsRefused}
 use Rattle.thistlecart.specs.Emit.{emitted_word, TellsEmitted, EmitDemand}
@@ -25,19 +25,19 @@ emitted_fits rule out small = go (read_rule rule) refl
   where
     go : (read : Reading) → read_rule rule ≡ read → EmittedFits (emitted_of read out)
     go (accepted is f) e =
-        both_ways EmittedFits (too_short out (code_bytes f)) {x = Emitted.Refused Refusal.ShortOutput} (omega arith)
+        both_ways EmittedFits (too_short out (code_bytes f)) {x = Err Refusal.ShortOutput} (omega arith)
         (omega (arith, code_bytes_lem rule is f (accepted_rule rule is f small e)))
     go (refused r) e = omega (arith, rule_place rule r small e)
 
 -- Its word tells it
-pub emitted_told : (a : Emitted) → EmittedFits a → TellsEmitted a (emitted_word a)
-emitted_told (Emitted.Length length) fits = length_told_lem length fits
-emitted_told (Emitted.Refused r) fits = refusal_told_lem r fits
+pub emitted_told : (a : Result ℕ Refusal) → EmittedFits a → TellsEmitted a (emitted_word a)
+emitted_told (Ok length) fits = length_told_lem length fits
+emitted_told (Err r) fits = refusal_told_lem r fits
 
 -- a refusal leaves the buffer as it was
-emit_stays : (a : Emitted) (word : ℕ) (read : Reading) (out : List ℕ) → TellsEmitted a word → IsRefused word → out_after a read out ≡ out
-emit_stays (Emitted.Length n) word read out told no_answer = absurd (no_answer told.0)
-emit_stays (Emitted.Refused r) word read out told no_answer = refl
+emit_stays : (a : Result ℕ Refusal) (word : ℕ) (read : Reading) (out : List ℕ) → TellsEmitted a word → IsRefused word → out_after a read out ≡ out
+emit_stays (Ok n) word read out told no_answer = absurd (no_answer told.0)
+emit_stays (Err r) word read out told no_answer = refl
 
 -- Its part of the first demand
 pub emit_demand : EmitDemand

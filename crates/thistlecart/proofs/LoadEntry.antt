@@ -6,7 +6,9 @@ use Prim.Native.Nat.{ℕ, ◌+◌, ◌*◌, ◌/◌}
 use native.Mathlib.Omega.{arith}
 use Rattle.ground.specs.Buffers.{AllBytes}
 use Rattle.rules.specs.Loading.{Reading, accepted, refused, read_rule, loaded_of}
+use Rattle.ground.specs.declared.refusal.Refusal.{Refusal}
 use Rattle.rules.specs.declared.load.Loaded.{Loaded}
+use Rattle.std.proofs.Common.{Result, Ok, Err}
 use Rattle.rules.proofs.Accepted.{accepted_rule}
 use Rattle.rules.proofs.Places.{rule_place}
 use Rattle.thistlecart.specs.Accessors.{refusal_told}
@@ -24,12 +26,13 @@ loaded_fits rule small = go (read_rule rule) refl
     go (refused r) e = omega (arith, rule_place rule r small e)
 
 -- Its word tells it
-pub loaded_told : (a : Loaded) → LoadedFits a → TellsLoaded a (load_word a)
-loaded_told (Loaded.Accepted items horizon) (fits, far) =
-    let low : refusal_told (items * bit8 + horizon * bit24) ≡ 0 = omega arith in
-    let above : (items * bit8 + horizon * bit24) / bit8 ≡ items + horizon * bit16 = omega arith in
+pub loaded_told : (a : Result Loaded Refusal) → LoadedFits a → TellsLoaded a (load_word a)
+loaded_told (Ok loaded) (fits, far) =
+    let word = loaded.items * bit8 + loaded.horizon * bit24 in
+    let low : refusal_told word ≡ 0 = omega arith in
+    let above : word / bit8 ≡ loaded.items + loaded.horizon * bit16 = omega arith in
     (low, rw (calm _ low, above) (omega arith), rw (calm _ low) (omega arith))
-loaded_told (Loaded.Refused r) fits = refusal_told_lem r fits
+loaded_told (Err r) fits = refusal_told_lem r fits
 
 -- Its part of the first demand
 pub load_demand : LoadDemand

@@ -12,8 +12,8 @@ use Rattle.ground.proofs.Refusals.{numbered}
 use Rattle.rules.specs.Loading.{Reading, accepted, refused, read_rule}
 use Rattle.rules.proofs.Accepted.{accepted_rule}
 use Rattle.rules.proofs.Places.{rule_place}
-use Rattle.makers.specs.Making.{which_of, or_else, room_made, new_made, one_made, two_made, made_after, Makes, MakesOne, MakesTwo}
-use Rattle.makers.specs.declared.make.Made.{Made}
+use Rattle.std.proofs.Common.{Ok, Err}
+use Rattle.makers.specs.Making.{Made, refused_as, which_of, or_else, room_made, new_made, one_made, two_made, made_after, Makes, MakesOne, MakesTwo}
 use Rattle.makers.specs.declared.make.Which.{Which}
 use Rattle.thistlecart.specs.Accessors.{IsRefused, TellsAndKeeps}
 use Rattle.thistlecart.specs.Inner.Make.{MadeFits}
@@ -46,7 +46,7 @@ new_fits new out small = go (read_rule new) refl
   where
     go : (read : Reading) → read_rule new ≡ read → MadeFits (or_else Which.New read (room_made new out))
     go (accepted is f) e =
-        both_ways MadeFits (too_short out new) {x = Made.Refused Which.New Refusal.ShortOutput} (omega arith)
+        both_ways MadeFits (too_short out new) {x = refused_as Which.New Refusal.ShortOutput} (omega arith)
         (omega (arith, (accepted_rule new is f small e).short))
     go (refused r) e = omega (arith, rule_place new r small e)
 
@@ -73,8 +73,8 @@ two_fits operator first second out made out' own small too says =
 
 -- Its word tells it
 pub made_told : (a : Made) → MadeFits a → TellsMade a (made_word a)
-made_told (Made.Length length) fits = length_told_lem length fits
-made_told (Made.Refused which r) fits = which_told_lem r (which_of which) fits
+made_told (Ok length) fits = length_told_lem length fits
+made_told (Err e) fits = which_told_lem e.refusal (which_of e.which) fits
 
 -- What a maker says, with the word of its answer, is what its entry says
 pub made_entry : {made : Made} {new out : List ℕ} {answer : Made} {out' : List ℕ} {word : ℕ} → Makes made new out answer out' → word ≡ made_word answer
@@ -83,8 +83,8 @@ made_entry says own = record { own_word = own ∙ ap made_word says.own_answer; 
 
 -- a refusal leaves the buffer as it was
 maker_stays : (a : Made) (word : ℕ) (new out : List ℕ) → TellsMade a word → IsRefused word → made_after a new out ≡ out
-maker_stays (Made.Length n) word new out told no_answer = absurd (no_answer told.0)
-maker_stays (Made.Refused which r) word new out told no_answer = refl
+maker_stays (Ok n) word new out told no_answer = absurd (no_answer told.0)
+maker_stays (Err e) word new out told no_answer = refl
 
 maker_demand : (made : Made) (new out : List ℕ) → MadeFits made → (word : ℕ) (out' : List ℕ) → MadeEntry made new out word out'
     → TellsAndKeeps (TellsMade made word) out word out'

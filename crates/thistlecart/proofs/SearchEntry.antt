@@ -4,11 +4,13 @@ use mathlib.Core.Path.{◌≡◌}
 use mathlib.Core.Bool.{Bool, true, false}
 use mathlib.Core.List.{List}
 use mathlib.Core.Logic.{◌⊎◌, inl, inr}
-use Prim.Native.Nat.{ℕ, ◌+◌, ◌*◌, ◌/◌}
+use Prim.Native.Nat.{ℕ, ◌+◌, ◌*◌, ◌/◌, ◌≤◌, ◌<◌}
 use native.Mathlib.Omega.{arith}
 use borrow.Author.Tests.{le-ltb}
 use lib.ListN.{length, replicate}
+use Rattle.std.proofs.Common.{Option, Some, None, IfSome, Result, Ok, Err}
 use Rattle.ground.specs.Buffers.{AllBytes}
+use Rattle.ground.specs.Limits.{most_horizon}
 use Rattle.ground.specs.Refusals.{number_of}
 use Rattle.ground.specs.declared.refusal.Refusal.{Refusal}
 use Rattle.rules.specs.Formula.{Formula}
@@ -17,50 +19,58 @@ use Rattle.paths.specs.Answers.{Answer, met, none, no_room}
 use Rattle.finder.specs.Search.{found_of, witness_after, short_witness, RuleSays, SearchSays}
 use Rattle.finder.specs.declared.search.Found.{Found}
 use Rattle.finder.proofs.Small.{Small, said_small}
-use Rattle.thistlecart.specs.Accessors.{refusal_told, IsRefused}
+use Rattle.thistlecart.specs.Accessors.{refusal_told, states_told, IsRefused}
 use Rattle.thistlecart.specs.Inner.Search.{FoundFits}
-use Rattle.thistlecart.specs.Search.{found_word, TellsFound, SearchDemand}
+use Rattle.thistlecart.specs.Search.{answer_word, found_word, TellsLength, TellsFound, SearchDemand}
 use Rattle.thistlecart.specs.Words.{bit8, bit16, bit24, bit32}
 use Rattle.thistlecart.proofs.Accessors.{refusal_told_lem, calm}
 
+-- a length that is shown
+length_fits : (shown : Option ℕ) → IfSome shown (λ l. l ≤ most_horizon + 1) → IfSome shown (λ l. l < bit16)
+length_fits (Some l) short = omega arith
+length_fits None short = tt
+
 -- What the search answers fits
-pub found_fits : (rule table witness : List ℕ) (r : Found) (table' witness' : List ℕ) → AllBytes rule
+pub found_fits : (rule table witness : List ℕ) (r : Result Found Refusal) (table' witness' : List ℕ) → AllBytes rule
     → SearchSays (read_rule rule) table witness r table' witness' → FoundFits r
 found_fits rule table witness r table' witness' small says = go r (said_small rule table witness r table' witness' small says)
   where
-    go : (found : Found) → Small found → FoundFits found
-    go (Found.Met l n) (short, some, few) = (omega arith, some, omega arith)
-    go (Found.None n) (some, few) = (some, omega arith)
-    go (Found.Refused x) near = omega arith
+    go : (found : Result Found Refusal) → Small found → FoundFits found
+    go (Ok found) (short, some, few) = (length_fits found.length short, some, omega arith)
+    go (Err x) near = omega arith
 
 -- Its word tells it
-pub found_told : (a : Found) → FoundFits a → TellsFound a (found_word a)
-found_told (Found.Met length states) (short, some, few) =
-    let word = bit8 + length * bit16 + states * bit32 in
+told_at : (shown : Option ℕ) (states : ℕ) → IfSome shown (λ l. l < bit16) → 1 ≤ states → states < bit32
+    → (refusal_told (answer_word shown states) ≡ 0) × TellsLength shown (answer_word shown states)
+    × (states_told (answer_word shown states) ≡ states)
+told_at (Some l) states short some few =
+    let word = bit8 + l * bit16 + states * bit32 in
     let low : refusal_told word ≡ 0 = omega arith in
-    let above : word / bit8 ≡ 1 + length * bit8 + states * bit24 = omega arith in (
+    let above : word / bit8 ≡ 1 + l * bit8 + states * bit24 = omega arith in (
       low,
-      rw (calm _ low, above) (omega arith),
-      rw (calm _ low, le-ltb word bit32 (omega arith)) (omega arith),
+      (rw (calm _ low, above) (omega arith), rw (calm _ low, le-ltb word bit32 (omega arith)) (omega arith)),
       rw (calm _ low) (omega arith),
     )
-found_told (Found.None states) (some, few) =
+told_at None states short some few =
     let word = states * bit32 in
     let low : refusal_told word ≡ 0 = omega arith in
     let above : word / bit8 ≡ states * bit24 = omega arith in (
       low,
-      rw (calm _ low, above) (omega arith),
-      rw (calm _ low, le-ltb word bit32 (omega arith)) (omega arith),
+      (rw (calm _ low, above) (omega arith), rw (calm _ low, le-ltb word bit32 (omega arith)) (omega arith)),
       rw (calm _ low) (omega arith),
     )
-found_told (Found.Refused r) fits = refusal_told_lem r fits
+
+pub found_told : (a : Result Found Refusal) → FoundFits a → TellsFound a (found_word a)
+found_told (Ok found) (short, some, few) = told_at found.length found.states short some few
+found_told (Err r) fits = refusal_told_lem r fits
 
 -- a refused search leaves the witness buffer as it was, and the table, unless it is 15
 abbrev Stays : List ℕ → List ℕ → ℕ → List ℕ → List ℕ → Type 0
 Stays table witness word table' witness' =
     (witness' ≡ witness) × ((table' ≡ table) ⊎ ((refusal_told word ≡ number_of Refusal.NoRoom) × (table' ≡ replicate (length table) 0)))
 
-module _ (table witness : List ℕ) (found : Found) (word : ℕ) (table' witness' : List ℕ) (told : TellsFound found word) (no_answer : IsRefused word) where
+module _ (table witness : List ℕ) (found : Result Found Refusal) (word : ℕ) (table' witness' : List ℕ) (told : TellsFound found word)
+    (no_answer : IsRefused word) where
   answer_stays : (a : Answer) → found ≡ found_of a → witness' ≡ witness_after a witness → table' ≡ replicate (length table) 0
       → Stays table witness word table' witness'
   answer_stays (met c n) own left clear = absurd (no_answer (rw own at told).0)

@@ -2,22 +2,21 @@
 -- demand. Document 01: "Makers: first rule, second rule, then the new bytes as a rule, then 16; the answer says which
 -- of the three was refused"; "emitter and makers also give its length". The word has the length in bits 8 and up; a
 -- refusal's has which of the three in bits 40 and up.
-use Rattle.std.specs.Prelude.{◌≡◌, List, ◌++◌, ℕ, ◌+◌, ◌*◌}
+use Rattle.std.specs.Prelude.{◌≡◌, Ok, Err, List, ◌++◌, ℕ, ◌+◌, ◌*◌}
 use Rattle.ground.specs.Buffers.{AllBytes}
-use Rattle.makers.specs.Making.{which_of, one_made, two_made, made_after}
-use Rattle.makers.specs.declared.make.Made.{Made}
+use Rattle.makers.specs.Making.{Made, which_of, one_made, two_made, made_after}
 use Rattle.thistlecart.specs.Accessors.{refusal_told, which_told, length_told, TellsRefusal, TellsAndKeeps}
 use Rattle.thistlecart.specs.Words.{bit8, bit40, refusal_word}
 
 -- The word of what a maker answers
 abbrev pub made_word : Made → ℕ
-made_word (Made.Length length) = length * bit8
-made_word (Made.Refused which r) = refusal_word r + which_of which * bit40
+made_word (Ok length) = length * bit8
+made_word (Err e) = refusal_word e.refusal + which_of e.which * bit40
 
 -- A word tells what a maker answers
 abbrev pub TellsMade : Made → ℕ → Type 0
-TellsMade (Made.Length length) word = (refusal_told word ≡ 0) × (length_told word ≡ length)
-TellsMade (Made.Refused which r) word = TellsRefusal r word × (which_told word ≡ which_of which)
+TellsMade (Ok length) word = (refusal_told word ≡ 0) × (length_told word ≡ length)
+TellsMade (Err e) word = TellsRefusal e.refusal word × (which_told word ≡ which_of e.which)
 
 -- What a maker says, by what it answers and by the new bytes
 pub record MadeEntry (made : Made) (new out : List ℕ) (word : ℕ) (out' : List ℕ) : Type 0 where

@@ -4,16 +4,17 @@ ghost use Rattle.thistlecart.specs.Emit.{emitted_word, EmitEntry};
 ghost use Rattle.thistlecart.specs.Inner.Emit.{EmittedFits};
 
 use crate::word::{BIT_8, refusal_word};
-use emitter::emit::{Emitted, emit};
+use emitter::emit::emit;
+use ground::refusal::Refusal;
 
 // The word of what emitting answers.
-fn emitted_word(emitted: Emitted) -> u64
+fn emitted_word(emitted: Result<usize, Refusal>) -> u64
     requires { EmittedFits emitted }
     ensures { result ≡ emitted_word emitted }
 {
     match emitted {
-        Emitted::Length(length) => length as u64 * BIT_8,
-        Emitted::Refused(refusal) => refusal_word(refusal),
+        Ok(length) => length as u64 * BIT_8,
+        Err(refusal) => refusal_word(refusal),
     }
 }
 

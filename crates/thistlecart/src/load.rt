@@ -4,16 +4,17 @@ ghost use Rattle.thistlecart.specs.Load.{load_word, LoadEntry};
 ghost use Rattle.thistlecart.specs.Inner.Load.{LoadedFits};
 
 use crate::word::{BIT_8, BIT_24, refusal_word};
+use ground::refusal::Refusal;
 use rules::load::{Loaded, load};
 
 // The word of what loading answers.
-fn load_word(loaded: Loaded) -> u64
+fn load_word(loaded: Result<Loaded, Refusal>) -> u64
     requires { LoadedFits loaded }
     ensures { result ≡ load_word loaded }
 {
     match loaded {
-        Loaded::Accepted { items, horizon } => items as u64 * BIT_8 + horizon as u64 * BIT_24,
-        Loaded::Refused(refusal) => refusal_word(refusal),
+        Ok(Loaded { items, horizon }) => items as u64 * BIT_8 + horizon as u64 * BIT_24,
+        Err(refusal) => refusal_word(refusal),
     }
 }
 

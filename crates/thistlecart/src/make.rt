@@ -5,17 +5,17 @@ ghost use Rattle.thistlecart.specs.Make.{made_word, OneRuleEntry, TwoRulesEntry}
 ghost use Rattle.thistlecart.specs.Inner.Make.{MadeFits};
 
 use crate::word::{BIT_8, BIT_40, refusal_word};
-use makers::make::{Made, both, either, negate, next, which_number};
+use makers::make::{Refused, both, either, negate, next, which_number};
 
 // The word of what a maker answers.
-fn made_word(made: Made) -> u64
+fn made_word(made: Result<usize, Refused>) -> u64
     requires { MadeFits made }
     ensures { result ≡ made_word made }
 {
     match made {
-        Made::Length(length) => length as u64 * BIT_8,
-        Made::Refused { which, refusal } => refusal_word(refusal)
-            + which_number(which) as u64 * BIT_40,
+        Ok(length) => length as u64 * BIT_8,
+        Err(Refused { which, refusal }) => refusal_word(refusal)
+            + u64::from(which_number(which)) * BIT_40,
     }
 }
 

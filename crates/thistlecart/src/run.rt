@@ -4,16 +4,17 @@ ghost use Rattle.thistlecart.specs.Run.{ran_word, RunEntry};
 ghost use Rattle.thistlecart.specs.Inner.Run.{RanFits};
 
 use crate::word::refusal_word;
-use sequencer::run::{Ran, run};
+use ground::refusal::Refusal;
+use sequencer::run::run;
 
 // The word of what a run answers.
-fn ran_word(ran: Ran) -> u64
+fn ran_word(ran: Result<(), Refusal>) -> u64
     requires { RanFits ran }
     ensures { result ≡ ran_word ran }
 {
     match ran {
-        Ran::Done => 0,
-        Ran::Refused(refusal) => refusal_word(refusal),
+        Ok(()) => 0,
+        Err(refusal) => refusal_word(refusal),
     }
 }
 

@@ -5,16 +5,19 @@ ghost use Rattle.thistlecart.specs.Inner.Search.{FoundFits};
 
 use crate::word::{BIT_8, BIT_16, BIT_32, refusal_word};
 use finder::search::{Found, search};
+use ground::refusal::Refusal;
 
 // The word of what the search answers.
-fn found_word(found: Found) -> u64
+fn found_word(found: Result<Found, Refusal>) -> u64
     requires { FoundFits found }
     ensures { result ≡ found_word found }
 {
     match found {
-        Found::Met { length, states } => BIT_8 + length as u64 * BIT_16 + states as u64 * BIT_32,
-        Found::None { states } => states as u64 * BIT_32,
-        Found::Refused(refusal) => refusal_word(refusal),
+        Ok(Found { length, states }) => match length {
+            Some(length) => BIT_8 + length as u64 * BIT_16 + states as u64 * BIT_32,
+            None => states as u64 * BIT_32,
+        },
+        Err(refusal) => refusal_word(refusal),
     }
 }
 

@@ -4,7 +4,8 @@ use Rattle.std.specs.Prelude.{◌≡◌, Bool, true, false, List, ℕ, ◌+◌, 
 use Rattle.ground.specs.Frames.{has_flag}
 use Rattle.ground.specs.Limits.{limits}
 use Rattle.paths.specs.Inner.Searching.{frame_bytes}
-use Rattle.code.specs.Code.{Code, One, Flag}
+use Rattle.code.specs.declared.instruction.Instruction.TheVariants.{One, Flag}
+use Rattle.code.specs.Code.{Code}
 
 -- How many flags a frame has
 abbrev pub flags : ℕ

@@ -4,7 +4,7 @@ use Rattle.table.proofs.store.Goals as goal
 
 pub returns : goal.returns
 returns c =
-    let head = rw c.record_at.ensures.own at c.read_link-head.ensures.0 in
+    let head = rw c.record_at.ensures at c.read_link-head.ensures.0 in
     let written = rw part_record at c.write_record.ensures in
     let linked = rw part_record at c.write_link.ensures in
     stores _ _ _ _ _ _ _ _ _ _ c.requires c.key_of-key.ensures c.bucket_of-bucket.ensures.0 c.bucket_of-bucket.ensures.1 head written linked

@@ -2,9 +2,11 @@
 -- counter, lowest first, and a bit for each delay bit; the link to the record that it came from, as its number and one
 -- more, or 0; the frame byte in front; and, for the index, the record before it in its bucket and the last record of a
 -- bucket. Contracts of inner functions cite it; `search` says nothing of it.
-use Rattle.std.specs.Prelude.{◌≡◌, Bool, true, false, cond, List, ℕ, zero, suc, ◌+◌, ◌*◌, ◌-◌, ◌/◌, ◌%◌, ◌≤◌, ◌<◌, ltb}
+use Rattle.std.specs.Prelude.{◌≡◌, Bool, false, cond, List, ℕ, zero, suc, ◌+◌, ◌*◌, ◌-◌, ◌/◌, ◌%◌, ◌≤◌, ◌<◌, ltb}
 use Rattle.std.specs.Prelude.{length, get_or, take, drop}
-use Rattle.ground.specs.Buffers.{byte_values, AllBytes, byte_of}
+use Rattle.std.specs.Prelude.{Option, Some, None, IfSome}
+use Rattle.std.specs.Int.{from_bool}
+use Rattle.ground.specs.Buffers.{byte_values}
 use Rattle.ground.specs.Frames.{has_flag}
 use Rattle.ground.specs.Limits.{limits}
 use Rattle.sequencer.specs.declared.registers.Registers.{Registers}
@@ -28,11 +30,7 @@ key_bytes = counter_bytes + limits.delays / byte_bits
 -- The number of so many bits, the first lowest
 unfoldable pub bits_value : ℕ → List Bool → ℕ
 bits_value zero bits = 0
-bits_value (suc n) bits = byte_of (get_or bits 0 false) + 2 * bits_value n (drop 1 bits)
-
--- Four bits as a number, the first lowest
-abbrev pub nibble_of : Bool → Bool → Bool → Bool → ℕ
-nibble_of a b c d = byte_of a + 2 * byte_of b + 4 * byte_of c + 8 * byte_of d
+bits_value (suc n) bits = from_bool (get_or bits 0 false) + 2 * bits_value n (drop 1 bits)
 
 -- One of a counter's two bytes
 abbrev pub half_of : ℕ → ℕ → ℕ
@@ -45,24 +43,6 @@ key_byte r j =
     cond (ltb j counter_bytes)
     (half_of (get_or r.counters (j / counter_size) 0) (j % counter_size))
     (bits_value byte_bits (drop (byte_bits * (j - counter_bytes)) r.delays))
-
--- So many bytes as a number, the first lowest
-unfoldable pub value_of : ℕ → (ℕ → ℕ) → ℕ → ℕ
-value_of zero byte at = 0
-value_of (suc n) byte at = byte at + byte_values * value_of n byte (at + 1)
-
--- Eight bytes as a number, the first lowest
-abbrev pub word_of_eight : ℕ → ℕ → ℕ → ℕ → ℕ → ℕ → ℕ → ℕ → ℕ
-word_of_eight a b c d e f g h = a + byte_values * (b + byte_values * (c + byte_values * (d + byte_values *
-    (e + byte_values * (f + byte_values * (g + byte_values * h))))))
-
--- The bytes of a word
-abbrev pub word_bytes : ℕ
-word_bytes = 8
-
--- A word of a row of bytes, by its number
-abbrev pub word_of : (ℕ → ℕ) → ℕ → ℕ
-word_of byte i = value_of word_bytes byte (word_bytes * i)
 
 -- Bytes by their places
 abbrev pub byte_at : List ℕ → ℕ → ℕ
@@ -82,31 +62,9 @@ pub record Keeps (bytes : List ℕ) (r : Registers) : Type 0 where
 abbrev pub KeptBy : List ℕ → Registers → Type 0
 KeptBy bytes r = (kept : Registers) → Keeps bytes kept → r ≡ kept
 
--- Bytes of which the first keep registers now, and the others are as before
-pub record KeyWritten (r : Registers) (before after : List ℕ) : Type 0 where
-  pub keeps : Keeps after r
-  pub others : (j : ℕ) → key_bytes ≤ j → get_or after j 0 ≡ get_or before j 0
-  pub same : length after ≡ length before
-
--- One of the words that keep registers; its bytes are bytes
-pub record KeyWord (r : Registers) (i word : ℕ) : Type 0 where
-  pub own : word ≡ word_of (key_byte r) i
-  pub small : (k : ℕ) → k < word_bytes → key_byte r (word_bytes * i + k) < byte_values
-
--- The words that keep registers
-pub record KeyOf (r : Registers) (key : List ℕ) : Type 0 where
-  pub whole : Whole r
-  pub all : word_bytes * length key ≡ key_bytes
-  pub words : (i : ℕ) → (i + 1) * word_bytes ≤ key_bytes → KeyWord r i (get_or key i 0)
-
--- Bytes whose words are those of a key
-abbrev pub KeyWords : List ℕ → List ℕ → Type 0
-KeyWords bytes key = (i : ℕ) → (i + 1) * word_bytes ≤ key_bytes → word_of (byte_at bytes) i ≡ get_or key i 0
-
--- Whether a row of bytes has the words of a key; if so, it is told too that its elements are bytes
-abbrev pub SameKey : List ℕ → List ℕ → Bool → Type 0
-SameKey bytes key true = AllBytes bytes × KeyWords bytes key
-SameKey bytes key false = KeyWords bytes key → ⊥
+-- Bytes that have those of a key in front
+abbrev pub HasKey : List ℕ → List ℕ → Type 0
+HasKey key bytes = (j : ℕ) → j < key_bytes → get_or bytes j 0 ≡ get_or key j 0
 
 -- A counter that bytes keep, by its number: its low byte, and its high byte so many times as a byte has values
 abbrev pub counter_in : List ℕ → ℕ → ℕ
@@ -139,10 +97,23 @@ link_size = 3
 abbrev pub most_link : ℕ
 most_link = byte_values * byte_values * byte_values - 1
 
--- A number of three bytes: a link of a record
-abbrev pub link_at : ℕ → List ℕ → ℕ
-link_at at bytes =
+-- A number of three bytes
+abbrev pub stored_number : ℕ → List ℕ → ℕ
+stored_number at bytes =
     get_or bytes at 0 + get_or bytes (at + 1) 0 * byte_values + get_or bytes (at + 2) 0 * (byte_values * byte_values)
+
+-- The record that a link's number tells: the one of the number before it, or none if it is 0
+abbrev pub link_of : ℕ → Option ℕ
+link_of zero = None
+link_of (suc n) = Some n
+
+-- A link of a record
+abbrev pub link_at : ℕ → List ℕ → Option ℕ
+link_at at bytes = link_of (stored_number at bytes)
+
+-- A link that fits its three bytes
+abbrev pub LinkFits : Option ℕ → Type 0
+LinkFits link = IfSome link (λ n. n < most_link)
 
 -- Where the link to the record that it came from stands
 abbrev pub link_place : ℕ
@@ -160,12 +131,12 @@ chain_place = frame_place + 1
 abbrev pub head_place : ℕ
 head_place = chain_place + link_size
 
--- The link of a record: the number of the record that it came from and one more, or 0
-abbrev pub link_in : List ℕ → ℕ
+-- The record that a record came from, if any
+abbrev pub link_in : List ℕ → Option ℕ
 link_in = link_at link_place
 
 -- Bytes of which three are a link now, and the others are as before
-pub record LinkWritten (at link : ℕ) (before after : List ℕ) : Type 0 where
+pub record LinkWritten (at : ℕ) (link : Option ℕ) (before after : List ℕ) : Type 0 where
   pub own : link_at at after ≡ link
   pub below : (j : ℕ) → j < at → get_or after j 0 ≡ get_or before j 0
   pub behind : (j : ℕ) → at + link_size ≤ j → get_or after j 0 ≡ get_or before j 0
@@ -176,14 +147,18 @@ abbrev pub frame_in : List ℕ → ℕ
 frame_in bytes = get_or bytes frame_place 0
 
 -- What a record has
-pub record Has (bytes : List ℕ) (r : Registers) (link frame : ℕ) : Type 0 where
+pub record Has (bytes : List ℕ) (r : Registers) (link : Option ℕ) (frame : ℕ) : Type 0 where
   pub keeps : Keeps bytes r
   pub own_link : link_in bytes ≡ link
   pub own_frame : frame_in bytes ≡ frame
 
--- A record that is written: what it has, the record before it in its bucket, and the bytes behind as before
-pub record Written (r : Registers) (link frame chain : ℕ) (before after : List ℕ) : Type 0 where
-  pub has : Has after r link frame
+-- A record that is written: the bytes of its key, its link, its frame byte, the record before it in its bucket, and the
+-- bytes behind as before
+pub record Written (key : List ℕ) (link : Option ℕ) (frame : ℕ) (chain : Option ℕ)
+    (before after : List ℕ) : Type 0 where
+  pub own_key : HasKey key after
+  pub own_link : link_in after ≡ link
+  pub own_frame : frame_in after ≡ frame
   pub own_chain : link_at chain_place after ≡ chain
   pub behind : (j : ℕ) → head_place ≤ j → get_or after j 0 ≡ get_or before j 0
   pub same : length after ≡ length before
@@ -200,8 +175,3 @@ record_at table n = take limits.record_bytes (drop (n * limits.record_bytes) tab
 -- How many records a table has that is exactly its records
 abbrev pub room_in : List ℕ → ℕ
 room_in table = length table / limits.record_bytes
-
--- A record of a table as it is lent, whole
-pub record OneRecord (table : List ℕ) (n : ℕ) (bytes : List ℕ) : Type 0 where
-  pub own : bytes ≡ record_at table n
-  pub long : length bytes ≡ limits.record_bytes

@@ -1,75 +1,81 @@
--- `decode` meets its contract. The loop's invariant is `CodeTurn`, and each way out of a turn is one of its laws. The measure is how many bytes are left.
-use native.Mathlib.Omega.{arith}
-use Prim.Native.Nat.{◌+◌, ◌≤◌, ◌<◌}
-use mathlib.Core.Path.{◌≡◌, sym, ap, ◌∙◌}
+-- `decode` meets its contract. The loop's invariant is `CodeTurn`, and each way out of a turn is one of its laws; the program is sound, as it is what loading
+-- keeps. The measure is how many bytes are left.
+use Rattle.std.proofs.Common.{◌≡◌, [], Some, Ok, Err, sym, ap, ◌∙◌, arith, rules}
+use Rattle.ground.specs.declared.refusal.Refusal.{Refusal}
 use Rattle.reading.specs.Items.{item_at}
-use Rattle.ground.specs.Limits.{limits}
-use Rattle.reading.specs.declared.item.Read.{Read}
 use Rattle.reading.specs.declared.item.Table.{Table}
 use Rattle.reading.proofs.InTurn.{forward, item_inside, none_refused}
-use Rattle.code.specs.Loading.{code_kind, program_of}
-use Rattle.code.specs.Inner.Rows.{check_row}
-use Rattle.code.specs.declared.check.CheckedInstruction.{CheckedInstruction}
+use Rattle.code.specs.Loading.{code_kind, code_counts, reaches_in, distance_in, check_instruction, program_of, read_code}
+use Rattle.code.proofs.Accepted.{ready}
 use Rattle.code.proofs.Turns.{turn_first, turn_end, turn_refused, turn_checked, turn_room, turn_more}
 use Rattle.code.proofs.load.decode.Goals as goal
-use Rattle.code.proofs.load.decode.Goals.{In-Item, In-Next}
+use Rattle.code.proofs.load.decode.Goals.{In-Some, In_ok-more, In_default, After-pass}
 
--- the item that a turn reads is the definition's, and it leads on
-is_item : (c : In-Item) → Read.Item c.in-Item.code c.in-Item.first c.in-Item.second c.in-Item.third c.in-Item.next ≡ item_at Table.Code c.args.bytes.now
-    c.loop-code.at
-is_item c = sym c.in-Item.is ∙ c.read_item.ensures
+-- the item that a turn reads is the definition's
+is_read : (c : In-Some) → Ok (Some c.in-Some.read) ≡ item_at c.loop-read.reader.table c.loop-read.reader.bytes.now c.loop-read.reader.at
+is_read c = search rules
 
-read_on : (c : In-Item) → c.loop-code.at < c.in-Item.next
-read_on c = forward _ _ _ _ _ _ _ _ (λ i. omega (arith, c.type_inv.bytes i)) (is_item c)
+is_item : (c : In-Some) → Ok (Some c.in-Some.read) ≡ item_at Table.Code c.args.bytes.now c.loop-read.reader.at
+is_item c = rw (c.loop-read.invariant.0.own_table, c.loop-read.invariant.0.own_bytes) at (is_read c)
 
--- it is checked, and there is room for its numbers
-is_next : (c : In-Next) → CheckedInstruction.Next c.in-Next.more ≡ check_row c.loop-code.counts c.loop-code.at c.row_of.result
-is_next c = sym c.in-Next.is ∙ c.check.ensures
+-- it is checked
+is_next : (c : In_ok-more) → Ok c.in_ok-more.more ≡ check_instruction c.loop-read.counts c.loop-read.reader.at c.instruction_of-instruction.result
+is_next c = search rules
 
-room : (c : In-Next) → c.loop-code.counts.instructions + 1 ≤ limits.instructions
-room c = turn_room _ _ _ _ c.loop-code.invariant _ _ _ _ _ (sym c.in-Item.is ∙ c.read_item.ensures) _ c.row_of.ensures _ _ (is_next c)
+pub returns-then-is_empty-clause-value : goal.returns-then-is_empty-clause-value
+returns-then-is_empty-clause-value c = ap program_of (none_refused code_kind _ (search rules))
 
-pub returns-then-bytes-eq0 : goal.returns-then-bytes-eq0
-returns-then-bytes-eq0 c = c.refused.ensures ∙ ap program_of (none_refused code_kind _ c.if-bytes-eq0.true)
+pub loop-read-init : goal.loop-read-init
+unfolding code_counts reaches_in distance_in
+loop-read-init c =
+    let zero : c.default-counts.result ≡ code_counts [] = search rules in
+    let at : c.new-reader.result.at ≡ 0 = search rules in
+    (record { own_table = search rules; own_bytes = search rules }, rw (zero, at) (turn_first _ (search rules)))
 
-pub loop-code-init : goal.loop-code-init
-loop-code-init c = turn_first _ c.if-bytes-eq0.false
+pub returns-in_err-read-clause-value : goal.returns-in_err-read-clause-value
+returns-in_err-read-clause-value c =
+    let (r, e, own) : (r : Refusal) × (c.item.result ≡ Err r) × (c.from_residual.result ≡ Err r) = search rules in
+    let here = rw (c.loop-read.invariant.0.own_table, c.loop-read.invariant.0.own_bytes) at c.item.ensures in
+    own ∙ ap program_of (turn_refused _ _ _ _ c.loop-read.invariant.1 r (sym e ∙ here))
 
-pub bounds-numbers-base : goal.bounds-numbers-base
-bounds-numbers-base c =
-    omega (arith, room (goal.at.bounds-numbers-base c).In-Next)
+pub returns-in_err-more-clause-value : goal.returns-in_err-more-clause-value
+returns-in_err-more-clause-value c =
+    let (r, e, own) : (r : Refusal) × (c.check.result ≡ Err r) × (c.from_residual-in_err-more.result ≡ Err r) = search rules in
+    own
+    ∙ ap program_of (turn_checked _ _ _ _ c.loop-read.invariant.1 _ (is_item (goal.at.returns-in_err-more-clause-value c).In-Some) _
+    c.instruction_of-instruction.ensures r
+    (sym e ∙ c.check.ensures))
 
-pub bounds-numbers-base-in-Next : goal.bounds-numbers-base-in-Next
-bounds-numbers-base-in-Next c =
-    omega (arith, room (goal.at.bounds-numbers-base-in-Next c).In-Next)
+pub bounds-instructions-counts : goal.bounds-instructions-counts
+bounds-instructions-counts c =
+    turn_room _ _ _ _ c.loop-read.invariant.1 _ (is_item (goal.at.bounds-instructions-counts c).In-Some) _ c.instruction_of-instruction.ensures _ (is_next c)
 
-pub bounds-numbers-base-in-Next-2 : goal.bounds-numbers-base-in-Next-2
-bounds-numbers-base-in-Next-2 c =
-    omega (arith, room (goal.at.bounds-numbers-base-in-Next-2 c).In-Next)
+-- past it the reader stands behind it
+passed : (c : After-pass) → c.pass.new.self.at ≡ c.in-Some.read.next
+passed c = search rules
 
-pub bounds-numbers-base-in-Next-3 : goal.bounds-numbers-base-in-Next-3
-bounds-numbers-base-in-Next-3 c =
-    omega (arith, room (goal.at.bounds-numbers-base-in-Next-3 c).In-Next)
+pub loop-read-smaller : goal.loop-read-smaller
+loop-read-smaller c =
+    let here = is_item (goal.at.loop-read-smaller c).In-Some in
+    omega (arith, passed c, forward _ _ _ _ _ _ _ _ (λ i. omega (arith, c.type_inv.bytes i)) here, item_inside _ _ _ _ _ _ _ _ here)
 
-pub loop-code-smaller : goal.loop-code-smaller
-loop-code-smaller c =
-    omega (arith, read_on (goal.at.loop-code-smaller c).In-Item, item_inside _ _ _ _ _ _ _ _ (is_item (goal.at.loop-code-smaller c).In-Item))
+pub loop-read-preserved : goal.loop-read-preserved
+loop-read-preserved c =
+    let at = goal.at.loop-read-preserved c in
+    let next =
+    turn_more _ _ _ _ c.loop-read.invariant.1 _ (is_item at.In-Some) _ c.instruction_of-instruction.ensures _ (is_next at.In_ok-more)
+    (λ i. omega (arith, c.type_inv.bytes i)) in
+    let t = c.loop-read.invariant.0.own_table in
+    let b = c.loop-read.invariant.0.own_bytes in
+    (record { own_table = search rules; own_bytes = search rules }, rw (passed c) next)
 
-pub loop-code-preserved : goal.loop-code-preserved
-loop-code-preserved c =
-    turn_more _ _ _ _ c.loop-code.invariant _ _ _ _ _ (is_item (goal.at.loop-code-preserved c).In-Item) _ c.row_of.ensures _
-    (is_next (goal.at.loop-code-preserved c).In-Next)
-    (λ i. omega (arith, c.type_inv.bytes i)) _ _ _ _ (omega arith)
+-- at the end the program is what loading keeps
+kept : (c : In_default) → Ok (record { instructions = c.loop-read.instructions; count = c.loop-read.counts.instructions })
+    ≡ program_of (read_code c.args.bytes.now)
+kept c = turn_end _ _ _ _ c.loop-read.invariant.1 (search rules)
 
-pub returns-in-Refused-check : goal.returns-in-Refused-check
-returns-in-Refused-check c =
-    let told = sym c.in-Refused-check.is ∙ c.check.ensures in
-    c.refused-in-Refused-check.ensures
-    ∙ ap program_of (turn_checked _ _ _ _ c.loop-code.invariant _ _ _ _ _ (is_item (goal.at.returns-in-Refused-check c).In-Item) _ c.row_of.ensures _ told)
+pub returns-clause-value : goal.returns-clause-value
+returns-clause-value c = kept c
 
-pub returns-in-End : goal.returns-in-End
-returns-in-End c = turn_end _ _ _ _ c.loop-code.invariant (sym c.in-End.is ∙ c.read_item.ensures)
-
-pub returns-in-Refused : goal.returns-in-Refused
-returns-in-Refused c = let told = sym c.in-Refused.is ∙ c.read_item.ensures in
-    c.refused-in-Refused.ensures ∙ ap program_of (turn_refused _ _ _ _ c.loop-code.invariant _ told)
+pub returns-clause-sound : goal.returns-clause-sound
+returns-clause-sound c = ready _ _ (λ i. omega (arith, c.type_inv.bytes i)) (kept c)

@@ -9,7 +9,7 @@ use Rattle.finder.proofs.explore.explore.Given as goal
 
 abbrev pub invariant-loop-passed : goal.invariant-loop-passed
 invariant-loop-passed l =
-    Tries l.numbers l.passed l.table l.first l.ended l.kept × (length l.table ≡ length l.initial.table)
+    Tries l.code l.passed l.table l.first l.ended l.stored × (length l.table ≡ length l.initial.table)
 
 abbrev pub decreases-loop-passed : goal.decreases-loop-passed
 decreases-loop-passed l = room_in l.initial.table - l.ended

@@ -7,4 +7,4 @@ pub returns-then-led : goal.returns-then-led
 returns-then-led c = λ ended t. meets _ t (omega arith) _ c.advance-led.ensures c.if-led.true
 
 pub returns : goal.returns
-returns c = λ ended t. c.keep-kept.ensures _ _ (misses _ t (omega arith) _ c.advance-led.ensures c.if-led.false)
+returns c = λ ended t. c.keep.ensures _ _ (misses _ t (omega arith) _ c.advance-led.ensures c.if-led.false)

@@ -1,21 +1,14 @@
--- `try_length` meets its contract. The outer loop's invariant is `BeforeState`, the inner one's `BeforeByte`; the measures are the states and the bytes that
--- are not tried yet. The way out by the label has a trial that satisfies; the one by which a byte is passed over leaves the table as it is.
-use Prim.Native.Nat.{◌-◌, ◌<◌}
+-- `try_length` meets its contract. Before each state the trials of the length stand where `Tries` says, and before each frame byte where `CanTry` says; no
+-- trial has satisfied.
+use mathlib.Core.Path.{◌≡◌}
+use Prim.Native.Nat.{◌<◌}
+use Rattle.std.proofs.Common.{None}
 use Rattle.paths.specs.Inner.Searching.{frame_bytes}
-use Rattle.finder.proofs.Trials.{BeforeState, BeforeByte}
+use Rattle.finder.specs.Inner.Explore.{CanTry, Tries}
 use Rattle.finder.proofs.explore.try_length.Given as goal
 
-abbrev pub invariant-loop-frame : goal.invariant-loop-frame
-invariant-loop-frame l =
-    BeforeByte l.numbers l.passed l.ended l.registers l.initial.table l.table l.state l.frame l.kept l.hit × (l.frame < frame_bytes)
-
-abbrev pub decreases-loop-frame : goal.decreases-loop-frame
-decreases-loop-frame l =
-    frame_bytes - l.frame
-
 abbrev pub invariant-all : goal.invariant-all
-invariant-all l =
-    BeforeState l.numbers l.passed l.ended l.initial.table l.table l.state l.kept l.hit
+invariant-all l = Tries l.code l.passed l.table l.state l.ended l.stored × (l.met ≡ None)
 
-abbrev pub decreases-all : goal.decreases-all
-decreases-all l = l.ended - l.state
+abbrev pub invariant-loop-frame : goal.invariant-loop-frame
+invariant-loop-frame l = CanTry l.code l.table l.registers l.state l.frame l.ended l.stored × (l.met ≡ None) × (l.frame < frame_bytes)

@@ -2,8 +2,8 @@
 use Rattle.finder.proofs.Witness.{Walks}
 use Rattle.finder.proofs.search.write_witness.Given as goal
 
-abbrev pub invariant-loop-link : goal.invariant-loop-link
-invariant-loop-link l = Walks l.table l.state l.frame l.initial.witness l.witness l.length l.at l.link
+abbrev pub invariant-loop-from : goal.invariant-loop-from
+invariant-loop-from l = Walks l.table l.fn.trial l.initial.witness l.witness l.length l.at
 
-abbrev pub decreases-loop-link : goal.decreases-loop-link
-decreases-loop-link l = l.at
+abbrev pub decreases-loop-from : goal.decreases-loop-from
+decreases-loop-from l = l.at

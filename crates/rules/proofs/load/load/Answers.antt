@@ -1,8 +1,7 @@
--- `load` meets its contract: it is the answer that `decode` keeps.
-use mathlib.Core.Path.{ap}
-use Rattle.rules.specs.Loading.{rule_of}
+-- `load` meets its contract: what is told of the rule that `decode` keeps is what loading tells.
+use Rattle.std.proofs.Common.{sym, ap, ◌∙◌, Ok}
+use Rattle.rules.proofs.Loaded.{told}
 use Rattle.rules.proofs.load.load.Goals as goal
 
 pub returns : goal.returns
-unfolding rule_of
-returns c = ap (λ r. r.loaded) c.decode-rule.ensures
+returns c = ap Ok c.loaded.ensures ∙ told _ _ (sym c.in_ok-rule.was ∙ c.decode.ensures)

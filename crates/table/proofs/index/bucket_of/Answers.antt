@@ -1,25 +1,23 @@
--- `bucket_of` meets its contract. The loop's invariant: the hash is that of the words passed. The measure is how many are left.
-use mathlib.Core.Path.{◌≡◌, refl}
-use Prim.Native.Nat.{◌/◌}
-use native.Mathlib.Omega.{arith}
-use Rattle.table.specs.Inner.Index.{hashed, bucket_of}
-use Rattle.table.specs.Inner.Records.{key_bytes, word_bytes}
-use Rattle.table.proofs.Words.{hashed_more, bucket_below}
+-- `bucket_of` meets its contract. The loop's invariant: the hash is that of the parts passed.
+use Rattle.std.proofs.Common.{◌≡◌, ◌/◌, [], length, refl, arith}
+use Rattle.table.specs.Inner.Index.{hashed, bucket_of, part_bytes}
+use Rattle.table.specs.Inner.Records.{key_bytes}
+use Rattle.table.proofs.Keys.{hashed_more, part_chunk, bucket_below}
 use Rattle.table.proofs.index.bucket_of.Goals as goal
 
-pub loop-i-init : goal.loop-i-init
+pub loop-part-init : goal.loop-part-init
 unfolding hashed
-loop-i-init c = (refl, omega arith, omega arith)
+loop-part-init c = refl
 
-pub loop-i-preserved : goal.loop-i-preserved
-loop-i-preserved c =
-    let inv = c.loop-i.invariant in
-    (rw (hashed_more, ← inv.0) c.mixed-hash.ensures.0, c.mixed-hash.ensures.1, omega arith)
+pub loop-part-preserved : goal.loop-part-preserved
+loop-part-preserved c =
+    let chunk = part_chunk c.args.key.now (length c.args.key.now / part_bytes) c.loop-part.part-index [] (omega arith) in
+    let part = rw (c.as_chunks.ensures.front, chunk) at c.from_le_bytes.ensures in
+    rw (hashed_more, ← c.loop-part.invariant, ← part) c.stirred-hash.ensures
 
 pub returns : goal.returns
 unfolding bucket_of
 returns c =
-    let inv = c.loop-i.invariant in
-    let all : c.loop-i.i ≡ key_bytes / word_bytes = omega arith in
-    let own = rw all at inv.0 in
-    (rw own, bucket_below _ _ inv.1 c.requires.1)
+    let all : c.loop-part.part-index ≡ key_bytes / part_bytes = omega arith in
+    let own = rw all at c.loop-part.invariant in
+    (rw own, bucket_below _ _ (omega arith) c.requires.0)

@@ -1,9 +1,7 @@
--- `stirred` meets its contract: the hash stays below half a word's values when it is turned, so the product fits a word.
-use mathlib.Core.Path.{refl}
-use native.Mathlib.Omega.{arith}
-use Rattle.table.specs.Inner.Index.{stirred}
+-- `stirred` meets its contract: a turn, a sum and a product, of which what passes a hash's bits falls away.
+use Rattle.std.proofs.Common.{arith}
+use Rattle.table.proofs.Keys.{stirred_in}
 use Rattle.table.proofs.index.stirred.Goals as goal
 
 pub returns : goal.returns
-unfolding stirred
-returns c = (refl, omega arith)
+returns c = rw c.rotate_right.ensures (stirred_in _ _ (omega arith))

@@ -1,6 +1,5 @@
--- `delays_of` meets its contract. The loop's invariant: the first i delay bits are read (`DelaysOf`). The measure is how many are left.
-use mathlib.Core.Path.{refl}
-use native.Mathlib.Omega.{arith}
+-- `delays_of` meets its contract. The loop's invariant: the first i delay bits are read (`DelaysOf`).
+use Rattle.std.proofs.Common.{refl, arith}
 use Rattle.ground.specs.Frames.{has_flag}
 use Rattle.table.proofs.Records.{delays_more}
 use Rattle.table.proofs.record.delays_of.Goals as goal

@@ -1,7 +1,0 @@
--- `write_decimal` meets its contract: no bytes are asked for behind what is written.
-use Rattle.std.proofs.Common.{refl}
-use Rattle.text.proofs.Before.{before_none}
-use Rattle.text.proofs.digits.write_decimal.Goals as goal
-
-pub returns : goal.returns
-returns c = let (own, place) = before_none c.write_before.ensures refl in record { buffer = own; place = place }
