@@ -1,4 +1,5 @@
-// Checking an instruction: 5, 10, 11, 12 in turn.
+// Checking an instruction: 5, 10, 11, 12 in turn. Rules count and refuse by other numbers, so that what is counted is a
+// struct of its own there.
 ghost use Rattle.std.specs.Prelude.{◌≡◌};
 ghost use Rattle.code.specs.Good.{CodeWithin};
 ghost use Rattle.code.specs.Loading.{check_instruction, code_counted, code_too_large};
@@ -18,7 +19,7 @@ pub(crate) struct CodeCounts {
 impl CodeCounts {
     // The counts with one instruction more.
     #[tactic(auto, unfolding(crate::specs::Loading::code_counted))]
-    fn with(mut self, instruction: Instruction) -> CodeCounts
+    fn counted(mut self, instruction: Instruction) -> CodeCounts
         requires { CodeWithin self }
         ensures { result ≡ code_counted self instruction }
     {
@@ -54,7 +55,7 @@ impl CodeCounts {
         if instruction.bad_width() {
             return Err(Refusal::BadWidth(at));
         }
-        let next = self.with(instruction);
+        let next = self.counted(instruction);
         if next.too_large() {
             return Err(Refusal::CodeTooLarge(at));
         }

@@ -11,8 +11,8 @@ use ground::refusal::Refusal;
 use reading::item::Table;
 use reading::reader::Reader;
 
-// Code that is loaded: its instructions in order, how many they are, and ONE behind them. The library has no heap, so
-// that they stand in an array.
+// Code that is loaded: its instructions in order, how many they are, and ONE behind them. The library has no heap and
+// rests on std alone, so that they stand in an array.
 #[derive(Clone, Copy, Debug, PartialEq, Eq)]
 pub struct Program {
     pub instructions: [Instruction; MOST_INSTRUCTIONS],
@@ -20,7 +20,7 @@ pub struct Program {
 }
 
 impl Program {
-    // The code of a program: its instructions, without those behind.
+    // The code of a program: its instructions, without those behind. A count beyond the array tells all of it.
     pub fn code(&self) -> &[Instruction]
         ensures { result.now ≡ code_held self.now }
     {

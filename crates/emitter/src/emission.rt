@@ -13,7 +13,8 @@ use code::load::Program;
 use ground::limits::{MOST_INSTRUCTIONS, MOST_ITEMS};
 use rules::item::{Item, row_of};
 
-// The code so far, and the numbers of the bits of the values that wait for an operator.
+// The code so far, and the numbers of the bits of the values that wait for an operator, in an array, as the library has
+// no heap.
 #[derive(Clone, Copy)]
 struct Emission {
     program: Program,
@@ -133,7 +134,8 @@ impl Emission {
         }
     }
 
-    // The bit of the value that stands so far below the top; 0 if there are not so many.
+    // The bit of the value that stands so far below the top; 0 and no `None` if there are not so many, as the table of
+    // code takes two numbers for every item.
     fn bit(&self, below: usize) -> u16
         requires { (self.now.depth ≤ limits.items) × (1 ≤ below) }
         ensures { result ≡ from_top self.now.bits self.now.depth below }

@@ -74,7 +74,8 @@ fn try_byte(
 }
 
 // Tries the states of the present length, in order, each with every frame byte in front that matters, up to the first
-// trial that satisfies.
+// trial that satisfies. Nested loops left by a label, as document 01 lists them. Code, table and what is stored go on
+// one by one: as fields of a struct with these functions as methods they cost the search a sixth more time.
 fn try_length(
     code: &[Instruction],
     passed: &[bool],

@@ -33,13 +33,13 @@ fn has_other(named: &[bool; FLAGS], byte: usize) -> bool
     (0..FLAGS).any(|k| (byte >> k) % 2 == 1 && !named[k])
 }
 
-// The bytes that have a flag that is not named.
+// The bytes that have a flag that is not named. `array::from_fn` would want an induction over its calls.
 pub(crate) fn passed_over(named: &[bool; FLAGS]) -> [bool; BYTES]
     ensures { Passed named.now result frame_bytes }
 {
     let mut passed = [false; BYTES];
-    for (byte, passed) in passed.iter_mut().enumerate() {
-        *passed = has_other(named, byte);
+    for (byte, entry) in passed.iter_mut().enumerate() {
+        *entry = has_other(named, byte);
     }
     passed
 }

@@ -18,7 +18,8 @@ pub struct Found {
     pub states: usize,
 }
 
-// Writes the clip of a trial in frame order, along the links from its state, and answers its length.
+// Writes the clip of a trial in frame order, along the links from its state, and answers its length. The walk goes
+// along links and not over a slice, so it counts the frames by hand.
 fn write_witness(table: &[u8], trial: Trial, witness: &mut [u8]) -> usize
     requires { CanShow table.now trial witness.old }
     ensures { Showing table.now trial witness.old witness.new result }

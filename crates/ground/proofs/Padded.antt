@@ -15,7 +15,7 @@ zeros zero i = refl
 zeros (suc m) zero = refl
 zeros (suc m) (suc i) = zeros m i
 
-append_zeros : (xs : List ℕ) (m i : ℕ) → get_or (xs ++ replicate m 0) i 0 ≡ get_or xs i 0
+pub append_zeros : (xs : List ℕ) (m i : ℕ) → get_or (xs ++ replicate m 0) i 0 ≡ get_or xs i 0
 append_zeros [] m i = zeros m i
 append_zeros (x ∷ xs) m zero = refl
 append_zeros (x ∷ xs) m (suc i) = append_zeros xs m i

@@ -9,7 +9,7 @@ pub fn wide(byte: u8) -> u16
     u16::from(byte)
 }
 
-// A bit as a byte, under the name that the definitions give it.
+// A bit as a byte: std's `From`, as a public function of this name.
 pub fn byte_of(bit: bool) -> u8
     ensures { result ≡ byte_of bit }
 {

@@ -29,7 +29,7 @@ pub struct Refused {
 // The longest operator: what next appends.
 const MOST_OPERATOR: usize = 3;
 
-// Room for two rules and an operator.
+// Room for two rules and an operator: an array, as the library has no heap.
 const MOST_NEW: usize = 2 * MOST_RULE + MOST_OPERATOR;
 
 // Which of the three, numbered in document 01's order: 1 first, 2 second, 3 the new bytes. By a match, as the numbers

@@ -16,7 +16,7 @@ use Rattle.ground.specs.Buffers.{AllBytes, byte_values}
 use Rattle.ground.specs.Limits.{limits}
 use Rattle.std.specs.Prelude.{None, Some, Result, Ok, Err}
 use Rattle.reading.specs.Numbers.{group, first_byte, second_byte, number_at, number_read, number_bytes}
-use Rattle.reading.specs.Items.{most_numbers, code_first, Standing, item_at, item_read}
+use Rattle.reading.specs.Items.{most_numbers, code_first, AtPlace, item_at, item_read}
 use Rattle.reading.specs.Items.{with_number, numbers_from, numbers_of, no_code, numbers_bytes, item_bytes}
 use Rattle.ground.specs.Padded.{padded}
 use Rattle.reading.specs.declared.number.Number.{Number}
@@ -48,7 +48,7 @@ same_number : {n next m behind : ℕ} → number_read n next ≡ number_read m b
 unfolding value_in next_in
 same_number e = (ap value_in e, ap next_in e)
 
-item_part : (Read → ℕ) → Standing → ℕ
+item_part : (Read → ℕ) → AtPlace → ℕ
 item_part f (Ok (Some r)) = f r
 item_part f (Ok None) = 0
 item_part f (Err r) = 0
@@ -152,7 +152,7 @@ abbrev AllFit : List ℕ → Type 0
 AllFit ns = (x : ℕ) → get_or ns x 0 ≤ limits.number
 
 -- where an item is read, so is its next number
-value : (at : ℕ) (number : Result Number Fault) (more : ℕ → ℕ → Standing) {code i j k last : ℕ} → with_number at number more ≡ item_read code i j k last
+value : (at : ℕ) (number : Result Number Fault) (more : ℕ → ℕ → AtPlace) {code i j k last : ℕ} → with_number at number more ≡ item_read code i j k last
     → (n : ℕ) × (next : ℕ) × (number ≡ number_read n next) × (more n next ≡ item_read code i j k last)
 value at (Ok n) more e = (n.value, n.next, refl, e)
 value at (Err f) more e = never (cc)

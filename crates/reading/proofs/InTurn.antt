@@ -12,7 +12,7 @@ use Rattle.ground.specs.Buffers.{AllBytes}
 use Rattle.ground.specs.Each.{Each}
 use Rattle.reading.specs.InTurn.{Outcome, fine, bad, Kind, AllRead, items, refused, after_read, after_checked, in_turn, read_all, bytes_of_all}
 use Rattle.std.specs.Prelude.{None, Some, Ok, Err}
-use Rattle.reading.specs.Items.{Standing, item_at, item_read, item_bytes, numbers_of, no_code}
+use Rattle.reading.specs.Items.{AtPlace, item_at, item_read, item_bytes, numbers_of, no_code}
 use Rattle.ground.specs.Refusals.{place_of}
 use Rattle.reading.specs.declared.item.Table.{Table}
 use Rattle.ground.specs.declared.refusal.Refusal.{Refusal}
@@ -154,7 +154,7 @@ module _ {A : Type 0} (kind : Kind A) (own : A → List ℕ) where
           checked i rest (bad r) e on = record { at = at; before = is; so_far = s; why = inr (i, e) }
 
           read : ((next : ℕ) (js : List A) → SoFar next js → length bytes - next ≤ n → Ends (in_turn kind n bytes next js))
-              → (r : Standing) → item_at kind.table bytes at ≡ r
+              → (r : AtPlace) → item_at kind.table bytes at ≡ r
               → Ends (after_read r (items is) λ code i j k next.
               after_checked (kind.check is at (kind.make code i j k)) (in_turn kind n bytes next (is ++ kind.make code i j k ∷ [])))
           read on (Ok (Some r)) e =

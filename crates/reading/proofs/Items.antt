@@ -1,18 +1,18 @@
 -- Laws of `numbers_from` and `item_at`. `ReadingNumbers` is where `read_numbers` stands: what it has read is in its array, and the rest, read on from here,
 -- the item.
-use mathlib.Core.Path.{◌≡◌, refl, sym, subst}
-use mathlib.Core.List.{List, [], ◌∷◌, ◌++◌}
+use mathlib.Core.Path.{◌≡◌, refl, sym, subst, ◌∙◌}
+use mathlib.Core.List.{List, [], ◌∷◌, ◌++◌, append-nil}
 use mathlib.Core.Logic.{by_cases}
 use Prim.Native.Nat.{ℕ, zero, suc, ◌+◌, ◌-◌, ◌≤◌, ◌<◌}
 use native.Mathlib.Nat.{sub-zero}
 use native.Mathlib.Decide.{dec_lt, ℕ_discrete}
 use native.Mathlib.Omega.{arith}
 use borrow.Author.Tests.{le-leb, lt-leb, ne_eqb}
-use lib.ListN.{length, get_or, set, replicate, length-append, drop_of_length-le}
+use lib.ListN.{length, get_or, set, take, drop, replicate, length-append, drop_of_length-le}
 use lib.Seq.{drop-cons}
 use Rattle.ground.specs.Each.{Each}
 use Rattle.std.specs.Prelude.{Option, None, Some, Result, Ok, Err}
-use Rattle.reading.specs.Items.{most_numbers, CodeRow, Standing, look, item_at, item_read, numbers_from, numbers_of, no_code, if_known, with_number}
+use Rattle.reading.specs.Items.{most_numbers, CodeRow, AtPlace, look, item_at, item_read, numbers_from, numbers_of, no_code, if_known, with_number}
 use Rattle.reading.specs.Numbers.{number_at, number_read, fault_at}
 use Rattle.ground.specs.Padded.{padded}
 use Rattle.ground.specs.Refusals.{place_of}
@@ -22,7 +22,8 @@ use Rattle.reading.specs.declared.number.Fault.{Fault}
 use Rattle.reading.specs.declared.number.Fault.TheVariants.{Short, Long}
 use Rattle.ground.specs.declared.refusal.Refusal.{Refusal}
 use Rattle.ground.specs.declared.refusal.Refusal.TheVariants.{UnknownCode}
-use Rattle.ground.proofs.Padded.{padded_none, set_padded, get_or-padded}
+use Rattle.std.proofs.lemmas.List.{take-replicate, drop-replicate}
+use Rattle.ground.proofs.Padded.{append_zeros, padded_none, set_padded}
 
 module _ (bytes : List ℕ) (at code count : ℕ) where
   -- k numbers are read, and the next one would stand at `next`
@@ -30,33 +31,43 @@ module _ (bytes : List ℕ) (at code count : ℕ) where
     pub read : List ℕ
     pub so_many : k ≡ length read
     pub within : k ≤ count
-    pub array : numbers ≡ padded most_numbers read
+    pub array : numbers ≡ padded count read
     pub rest : numbers_from (count - k) bytes at code read next ≡ numbers_from count bytes at code [] (at + 1)
 
-  pub start : ReadingNumbers (replicate most_numbers 0) (at + 1) 0
-  start = record { read = []; so_many = refl; within = omega arith; array = sym (padded_none most_numbers); rest = rw sub-zero }
+  pub start : count < no_code → ReadingNumbers (take count (replicate most_numbers 0)) (at + 1) 0
+  start small =
+      record {
+        read = [];
+        so_many = refl;
+        within = omega arith;
+        array = take-replicate count most_numbers 0 (omega arith) ∙ sym (padded_none count);
+        rest = rw sub-zero;
+      }
 
   module _ {numbers : List ℕ} {next k : ℕ} (r : ReadingNumbers numbers next k) where
     -- the item, once all numbers are read
-    pub whole : count ≤ k → item_read code (get_or numbers 0 0) (get_or numbers 1 0) (get_or numbers 2 0) next ≡ numbers_from count bytes at code [] (at + 1)
-    unfolding numbers_from
-    whole h =
+    pub whole : (array : List ℕ) → array ≡ numbers ++ drop count (replicate most_numbers 0) → count ≤ k
+        → item_read code (get_or array 0 0) (get_or array 1 0) (get_or array 2 0) next ≡ numbers_from count bytes at code [] (at + 1)
+    unfolding numbers_from padded
+    whole array own h =
         let e : count - k ≡ 0 = omega (arith, r.within) in
-        simp (r.array, get_or-padded) (rw e at r.rest)
+        let n : count - length r.read ≡ 0 = omega (arith, r.so_many) in
+        let all : array ≡ r.read ++ replicate (most_numbers - count) 0 = rw (own, r.array, n, append-nil, drop-replicate) in
+        simp (all, append_zeros) (rw e at r.rest)
 
     module _ (wanted : k < count) where
       one_more : count - k ≡ suc (count - (k + 1))
       one_more = omega arith
 
       -- one more number
-      pub more : (n behind : ℕ) → count < no_code → number_read n behind ≡ number_at bytes next → ReadingNumbers (set numbers k n) behind (k + 1)
+      pub more : (n behind : ℕ) → number_read n behind ≡ number_at bytes next → ReadingNumbers (set numbers k n) behind (k + 1)
       unfolding numbers_from
-      more n behind small e =
+      more n behind e =
           record {
             read = r.read ++ n ∷ [];
             so_many = simp length-append (omega (arith, r.so_many));
             within = omega arith;
-            array = rw (r.array, r.so_many, set_padded most_numbers r.read n (omega (arith, r.so_many)));
+            array = rw (r.array, r.so_many, set_padded count r.read n (omega (arith, r.so_many)));
             rest = rw (one_more, ← e) at r.rest;
           }
 
@@ -86,7 +97,7 @@ module _ (table : Table) (bytes : List ℕ) (at : ℕ) where
         (λ t. absurd (let z : ◌≡◌ {A = ℕ} 0 1 = cc (rw (le-leb no_code (numbers_of table (get_or bytes at 0)) (omega arith)) at e) in omega arith))
 
 -- before the end stands an item, or a refusal that has the item's place
-abbrev PlacedRead : ℕ → Standing → Type 0
+abbrev PlacedRead : ℕ → AtPlace → Type 0
 PlacedRead at (Ok (Some read)) = Unit {0}
 PlacedRead at (Ok None) = ⊥
 PlacedRead at (Err r) = place_of r ≡ at

@@ -3,7 +3,7 @@
 -- decides; no bytes at all are 1.
 use Rattle.std.specs.Prelude.{List, [], ◌∷◌, ◌++◌, ℕ, zero, suc, length}
 use Rattle.std.specs.Prelude.{None, Some, Ok, Err}
-use Rattle.reading.specs.Items.{Standing, item_at}
+use Rattle.reading.specs.Items.{AtPlace, item_at}
 use Rattle.reading.specs.declared.item.Table.{Table}
 use Rattle.ground.specs.declared.refusal.Refusal.{Refusal}
 
@@ -25,7 +25,7 @@ pub data AllRead (A : Type 0) : Type 0 where
   refused : Refusal → AllRead A
 
 -- After what stands at a place: the end, a refusal, or more with the item and the place behind it
-abbrev pub after_read : {A : Type 0} → Standing → AllRead A → (ℕ → ℕ → ℕ → ℕ → ℕ → AllRead A) → AllRead A
+abbrev pub after_read : {A : Type 0} → AtPlace → AllRead A → (ℕ → ℕ → ℕ → ℕ → ℕ → AllRead A) → AllRead A
 after_read (Ok (Some read)) end more = more read.code read.first read.second read.third read.next
 after_read (Ok None) end more = end
 after_read (Err r) end more = refused r

@@ -55,34 +55,34 @@ abbrev pub if_known : ℕ → Option ℕ
 if_known numbers = cond (leb no_code numbers) None (Some numbers)
 
 -- What stands at a place: an item and the place behind it, the end, or a refusal
-abbrev pub Standing : Type 0
-Standing = Result (Option Read) Refusal
+abbrev pub AtPlace : Type 0
+AtPlace = Result (Option Read) Refusal
 
 -- An item that is read: its code byte, its three numbers, and the place behind it
-abbrev pub item_read : ℕ → ℕ → ℕ → ℕ → ℕ → Standing
+abbrev pub item_read : ℕ → ℕ → ℕ → ℕ → ℕ → AtPlace
 item_read code i j k next = Ok (Some (record { code = code; first = i; second = j; third = k; next = next }))
 
 -- A number of the item at `at`: what follows goes on with its value and the place behind it, or the item is refused
-abbrev pub with_number : ℕ → Result Number Fault → (ℕ → ℕ → Standing) → Standing
+abbrev pub with_number : ℕ → Result Number Fault → (ℕ → ℕ → AtPlace) → AtPlace
 with_number at (Ok number) more = more number.value number.next
 with_number at (Err fault) more = Err (fault_at at fault)
 
 -- The item at `at` from the place `next` on, where so many numbers are still to come after those read: they are read in
 -- turn, and those that an item lacks are 0
-unfoldable pub numbers_from : ℕ → List ℕ → ℕ → ℕ → List ℕ → ℕ → Standing
+unfoldable pub numbers_from : ℕ → List ℕ → ℕ → ℕ → List ℕ → ℕ → AtPlace
 numbers_from zero bytes at code read next = item_read code (get_or read 0 0) (get_or read 1 0) (get_or read 2 0) next
 numbers_from (suc more) bytes at code read next =
     with_number at (number_at bytes next) λ n behind. numbers_from more bytes at code (read ++ n ∷ []) behind
 
 -- An item whose bytes, from place `at` on, are given: its first byte is its code
-abbrev pub code_first : Table → List ℕ → ℕ → List ℕ → Standing
+abbrev pub code_first : Table → List ℕ → ℕ → List ℕ → AtPlace
 code_first table bytes at [] = Ok None
 code_first table bytes at (code ∷ rest) =
     cond (leb no_code (numbers_of table code)) (Err (Refusal.UnknownCode at))
     (numbers_from (numbers_of table code) bytes at code [] (at + 1))
 
 -- The item at a place of some bytes, by the table of codes
-unfoldable pub item_at : Table → List ℕ → ℕ → Standing
+unfoldable pub item_at : Table → List ℕ → ℕ → AtPlace
 item_at table bytes at = code_first table bytes at (drop at bytes)
 
 -- A reader that stands in these bytes, by this table

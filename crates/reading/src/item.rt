@@ -15,7 +15,8 @@ pub enum Table {
     Code,
 }
 
-// An item that stands at a place: its code byte, its numbers (those that it lacks are 0), and the place behind it.
+// An item that stands at a place: its code byte, its numbers, and the place behind it. The numbers stand by name, as
+// the definitions have them; those that it lacks are 0.
 #[derive(Clone, Copy, Debug, PartialEq, Eq)]
 pub struct Read {
     pub code: u8,
@@ -72,9 +73,9 @@ fn read_numbers(bytes: &[u8], at: usize, code: u8, count: usize) -> Result<Optio
 {
     let mut numbers = [0u16; MOST_NUMBERS];
     let mut next = at + 1;
-    for k in 0..count {
+    for number in &mut numbers[..count] {
         let read = read_number(bytes, next).map_err(|fault| fault.at(at))?;
-        numbers[k] = read.value;
+        *number = read.value;
         next = read.next;
     }
     let [first, second, third] = numbers;

@@ -7,7 +7,7 @@ use crate::item::{Read, Table, item_at};
 use ground::refusal::Refusal;
 
 // The lent bytes of a rule or of code, the table of their code bytes, and a place in them.
-#[derive(Clone, Copy)]
+#[derive(Clone, Copy, Debug, PartialEq, Eq)]
 pub struct Reader<'a> {
     pub table: Table,
     pub bytes: &'a [u8],

@@ -9,7 +9,8 @@ use ground::limits::MOST_ITEMS;
 use ground::refusal::Refusal;
 
 // What is gathered of the items read so far: their counts, the horizons of the values that wait for an operator, as
-// many as the counts say, and the items in order, with true behind them.
+// many as the counts say, and the items in order, with true behind them. Both stand in arrays, as the library has no
+// heap.
 #[derive(Clone, Copy)]
 pub(crate) struct Gathered {
     pub counts: RuleCounts,
@@ -49,8 +50,8 @@ impl Gathered {
         let place = self.counts.items;
         let depth = self.counts.depth;
         let bottom = depth - row.operands;
-        let reach = largest(&self.horizons[bottom..depth]);
-        self.horizons[bottom] = row.upper + reach;
+        let horizon = largest(&self.horizons[bottom..depth]);
+        self.horizons[bottom] = row.upper + horizon;
         self.items[place] = item;
         self.counts = counts;
         Ok(())

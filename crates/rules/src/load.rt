@@ -20,7 +20,7 @@ pub struct Loaded {
 }
 
 // A rule that is accepted: its items in order, with true behind them, how many they are, and its horizon. The library
-// has no heap, so that the items stand in an array.
+// has no heap and rests on std alone, so that the items stand in an array.
 #[derive(Clone, Copy, Debug, PartialEq, Eq)]
 pub struct Rule {
     pub items: [Item; MOST_ITEMS],
@@ -29,7 +29,7 @@ pub struct Rule {
 }
 
 impl Rule {
-    // The items in order.
+    // The items in order. A count beyond the array tells all of it.
     #[tactic(auto, unfolding(crate::specs::Loaded::items_in))]
     pub fn items(&self) -> &[Item]
         ensures { result.now ≡ items_in self.now self.now.count }

@@ -2,17 +2,19 @@
 // with the independent second program, `second answer` of tests/second, which writes the same lines.
 //
 // Standard input, until it ends: a byte for the case's kind, and three times bytes, each with their length before them
-// as four bytes, lowest first: for `l`, load, the code and twice nothing; for `s`, step, the code, the frame, and the
-// registers (two bytes for each counter, lowest first, and behind them a byte for each delay bit); for `r`, run, the
-// code, the clip, and the buffer as it is before; for `e`, emit, the rule, nothing, and the buffer as it is before; for
-// `j`, verdicts, the rule, the clip, and the buffer as it is before.
+// as four bytes, lowest first. The bytes of each kind, and what its line on standard output begins with:
 //
-// Standard output: for load, `accepted INSTRUCTIONS` or `refused NUMBER PLACE`; for step, `bit BIT` or the refusal, and
-// ` counters COUNTERS delays DELAYS` with all registers after it, the delay bits as hex digits, the first bit highest;
-// for run, `done` or the refusal, and ` [BUFFER]` with every byte of the buffer after it, two hex digits each; for
-// emit, `length LENGTH` or the refusal, and ` [BUFFER]`; for verdicts, what a run of the rule's emitted code answers,
-// or the rule's refusal, and ` [BUFFER]`. Where bytes are longer than `MOST_BYTES`, the kind is another, or the stream
-// ends inside a case, the line is `cut`, and it is the last.
+//     `l`  load      code, nothing, nothing    `accepted INSTRUCTIONS`
+//     `s`  step      code, frame, registers    `bit BIT`
+//     `r`  run       code, clip, buffer        `done`
+//     `e`  emit      rule, nothing, buffer     `length LENGTH`
+//     `j`  verdicts  rule, clip, buffer        `done`, by a run of the rule's emitted code
+//
+// A refusal is `refused NUMBER PLACE` in place of that. Behind either, a step has ` counters COUNTERS delays DELAYS`
+// with all registers after it, the delay bits as hex digits, the first bit highest, and a case with a buffer has
+// ` [BUFFER]` with every byte after it, two hex digits each. A step's registers are two bytes for each counter, lowest
+// first, and behind them a byte for each delay bit; a buffer's bytes are those before the call. Where bytes are longer
+// than `MOST_BYTES`, the kind is another, or the stream ends inside a case, the line is `cut`, and it is the last.
 #![tactic(auto)]
 
 use code::load::load_code;
@@ -40,64 +42,40 @@ const WORD_DIGITS: usize = 2 * WORD_BYTES;
 
 // Why a case has no answer: the stream has no whole case, or cannot be read or written.
 #[derive(Drop)]
-enum Fault {
+enum Stop {
     Cut,
     Stream(io::Error),
 }
 
-impl From<io::Error> for Fault {
-    fn from(error: io::Error) -> Fault {
-        Fault::Stream(error)
+impl From<io::Error> for Stop {
+    // A stream that cannot be read or written.
+    fn from(error: io::Error) -> Stop {
+        Stop::Stream(error)
     }
 }
 
-// What is asked of a case.
+// What a case is answered where nothing is refused.
 #[derive(Clone, Copy)]
-enum Kind {
-    Load,
-    Step,
-    Run,
-    Emit,
-    Verdicts,
-}
-
-impl TryFrom<u8> for Kind {
-    type Error = Fault;
-
-    // The kind that a byte says. With any other byte the stream is cut.
-    fn try_from(byte: u8) -> Result<Kind, Fault> {
-        match byte {
-            b'l' => Ok(Kind::Load),
-            b's' => Ok(Kind::Step),
-            b'r' => Ok(Kind::Run),
-            b'e' => Ok(Kind::Emit),
-            b'j' => Ok(Kind::Verdicts),
-            _ => Err(Fault::Cut),
-        }
-    }
-}
-
-// What a case is answered.
-#[derive(Clone, Copy)]
-enum Answer {
+enum Told {
     Accepted(usize),
     Bit(bool),
     Done,
     Length(usize),
-    Refused(Refusal),
 }
+
+// What a case is answered, or why it is refused, as text.
+#[derive(Clone, Copy)]
+struct Answer(Result<Told, Refusal>);
 
 impl Display for Answer {
     // Its word and its number, or the refusal's number and place.
     fn fmt<W: fmt::Write>(&self, f: &mut Formatter<W>) -> fmt::Result {
-        match *self {
-            Answer::Accepted(instructions) => write!(f, "accepted {instructions}"),
-            Answer::Bit(bit) => write!(f, "bit {}", u8::from(bit)),
-            Answer::Done => f.write_str("done"),
-            Answer::Length(length) => write!(f, "length {length}"),
-            Answer::Refused(refusal) => {
-                write!(f, "refused {} {}", number(refusal), place(refusal))
-            }
+        match self.0 {
+            Ok(Told::Accepted(instructions)) => write!(f, "accepted {instructions}"),
+            Ok(Told::Bit(bit)) => write!(f, "bit {}", u8::from(bit)),
+            Ok(Told::Done) => f.write_str("done"),
+            Ok(Told::Length(length)) => write!(f, "length {length}"),
+            Err(refusal) => write!(f, "refused {} {}", number(refusal), place(refusal)),
         }
     }
 }
@@ -144,7 +122,7 @@ impl Display for Hex<'_> {
 
 // The registers that bytes say: two bytes for each counter, and a byte for each delay bit behind them. A byte that is
 // not there is 0.
-fn registers_of(bytes: &[u8]) -> Registers {
+fn lent_registers(bytes: &[u8]) -> Registers {
     let byte_at = |at: usize| bytes.get(at).copied().unwrap_or(0);
     Registers {
         counters: array::from_fn(|n| u16::from_le_bytes([byte_at(2 * n), byte_at(2 * n + 1)])),
@@ -160,73 +138,86 @@ fn verdicts(rule: &[u8], clip: &[u8], buffer: &mut [u8]) -> Result<(), Refusal> 
 }
 
 // Fills a buffer from the stream, which is cut where it ends before that.
-fn fill<R: Read>(input: &mut R, buffer: &mut [u8]) -> Result<(), Fault> {
+fn fill<R: Read>(input: &mut R, buffer: &mut [u8]) -> Result<(), Stop> {
     match input.read_exact(buffer) {
-        Err(error) if error.kind() == ErrorKind::UnexpectedEof => Err(Fault::Cut),
+        Err(error) if error.kind() == ErrorKind::UnexpectedEof => Err(Stop::Cut),
         read => Ok(read?),
     }
 }
 
 // Reads a length and so many bytes to the buffer's start, and answers these.
-fn read_bytes<'a, R: Read>(input: &mut R, buffer: &'a mut [u8]) -> Result<&'a mut [u8], Fault> {
+fn read_bytes<'a, R: Read>(input: &mut R, buffer: &'a mut [u8]) -> Result<&'a mut [u8], Stop> {
     let mut length = [0; 4];
     fill(input, &mut length)?;
     let bytes = buffer
         .get_mut(..u32::from_le_bytes(length) as usize)
-        .ok_or(Fault::Cut)?;
+        .ok_or(Stop::Cut)?;
     fill(input, bytes)?;
     Ok(bytes)
 }
 
-// A case: its kind and its bytes, of which the last are a buffer where the case has one.
+// A case: what is asked, and the bytes that it is asked of.
 #[derive(Drop)]
-struct Case<'a> {
-    kind: Kind,
-    first: &'a [u8],
-    second: &'a [u8],
-    third: &'a mut [u8],
+enum Case<'a> {
+    Load {
+        code: &'a [u8],
+    },
+    Step {
+        code: &'a [u8],
+        frame: &'a [u8],
+        registers: &'a [u8],
+    },
+    Run {
+        code: &'a [u8],
+        clip: &'a [u8],
+        buffer: &'a mut [u8],
+    },
+    Emit {
+        rule: &'a [u8],
+        buffer: &'a mut [u8],
+    },
+    Verdicts {
+        rule: &'a [u8],
+        clip: &'a [u8],
+        buffer: &'a mut [u8],
+    },
 }
 
 impl Case<'_> {
     // Answers the case in a line.
     fn answer<W: Write>(self, out: &mut W) -> io::Result<()> {
-        let Case {
-            kind,
-            first,
-            second,
-            third,
-        } = self;
-        match kind {
-            Kind::Load => {
-                let loaded = load_code(first).map_or_else(Answer::Refused, Answer::Accepted);
-                writeln!(out, "{loaded}")
+        match self {
+            Case::Load { code } => {
+                let loaded = load_code(code).map(Told::Accepted);
+                writeln!(out, "{}", Answer(loaded))
             }
-            Kind::Step => {
-                let frame = second.first().copied().unwrap_or(0);
-                let stepped = registers_of(third).step(first, frame);
-                let output = stepped.output.map_or_else(Answer::Refused, Answer::Bit);
-                writeln!(out, "{output} {}", Shown(&stepped.registers))
+            Case::Step {
+                code,
+                frame,
+                registers,
+            } => {
+                let frame = frame.first().copied().unwrap_or(0);
+                let stepped = lent_registers(registers).step(code, frame);
+                let output = stepped.output.map(Told::Bit);
+                writeln!(out, "{} {}", Answer(output), Shown(&stepped.registers))
             }
-            Kind::Run => {
-                let ran = run(first, second, third).map_or_else(Answer::Refused, |()| Answer::Done);
-                writeln!(out, "{ran} [{}]", Hex(third))
+            Case::Run { code, clip, buffer } => {
+                let ran = run(code, clip, buffer).map(|()| Told::Done);
+                writeln!(out, "{} [{}]", Answer(ran), Hex(buffer))
             }
-            Kind::Emit => {
-                let emitted = emit(first, third).map_or_else(Answer::Refused, Answer::Length);
-                writeln!(out, "{emitted} [{}]", Hex(third))
+            Case::Emit { rule, buffer } => {
+                let emitted = emit(rule, buffer).map(Told::Length);
+                writeln!(out, "{} [{}]", Answer(emitted), Hex(buffer))
             }
-            Kind::Verdicts => {
-                let ran = verdicts(first, second, third).map_or_else(
-                    Answer::Refused,
-                    |()| Answer::Done,
-                );
-                writeln!(out, "{ran} [{}]", Hex(third))
+            Case::Verdicts { rule, clip, buffer } => {
+                let ran = verdicts(rule, clip, buffer).map(|()| Told::Done);
+                writeln!(out, "{} [{}]", Answer(ran), Hex(buffer))
             }
         }
     }
 }
 
-// The buffers that the bytes of a case are read to.
+// The buffers that the bytes of a case are read to. They are arrays, as the program has no heap.
 #[derive(Drop)]
 struct Buffers {
     first: [u8; MOST_BYTES],
@@ -236,7 +227,7 @@ struct Buffers {
 
 impl Buffers {
     // Reads the next case, or none where the stream ends before it.
-    fn read_case<R: Read>(&mut self, input: &mut R) -> Result<Option<Case<'_>>, Fault> {
+    fn read_case<R: Read>(&mut self, input: &mut R) -> Result<Option<Case<'_>>, Stop> {
         let Some(kind) = input.by_ref().bytes().next() else {
             return Ok(None);
         };
@@ -246,22 +237,38 @@ impl Buffers {
             second,
             third,
         } = self;
-        // All bytes are read before the kind is asked for, as a stream may fail among them.
+        // All bytes are read before the kind is judged, as a stream may fail among them.
         let first = read_bytes(input, first)?;
         let second = read_bytes(input, second)?;
         let third = read_bytes(input, third)?;
-        let kind = Kind::try_from(kind)?;
-        Ok(Some(Case {
-            kind,
-            first,
-            second,
-            third,
-        }))
+        match kind {
+            b'l' => Ok(Some(Case::Load { code: first })),
+            b's' => Ok(Some(Case::Step {
+                code: first,
+                frame: second,
+                registers: third,
+            })),
+            b'r' => Ok(Some(Case::Run {
+                code: first,
+                clip: second,
+                buffer: third,
+            })),
+            b'e' => Ok(Some(Case::Emit {
+                rule: first,
+                buffer: third,
+            })),
+            b'j' => Ok(Some(Case::Verdicts {
+                rule: first,
+                clip: second,
+                buffer: third,
+            })),
+            _ => Err(Stop::Cut),
+        }
     }
 
     // Answers each case of the stream. A proved loop has to end, and nothing says that the stream does: the turns are
     // counted up to a number that no run comes to.
-    fn answer_all<R: Read, W: Write>(&mut self, input: &mut R, out: &mut W) -> Result<(), Fault> {
+    fn answer_all<R: Read, W: Write>(&mut self, input: &mut R, out: &mut W) -> Result<(), Stop> {
         for _ in 0..u64::MAX {
             match self.read_case(input)? {
                 Some(case) => case.answer(out)?,
@@ -282,7 +289,7 @@ fn main(rt: HostRuntime) -> io::Result<()> {
     let mut out = io::writer(&rt);
     match buffers.answer_all(&mut rt.reader(), &mut out) {
         Ok(()) => Ok(()),
-        Err(Fault::Cut) => writeln!(out, "cut"),
-        Err(Fault::Stream(error)) => Err(error),
+        Err(Stop::Cut) => writeln!(out, "cut"),
+        Err(Stop::Stream(error)) => Err(error),
     }
 }

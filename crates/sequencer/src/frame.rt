@@ -12,8 +12,8 @@ use crate::registers::Registers;
 use code::instruction::Instruction;
 use ground::limits::MOST_INSTRUCTIONS;
 
-// What stands for "none" in a counter; a count is kept as one more. A number and no `Option`, as a record of the
-// search's table keeps a counter in two bytes.
+// What stands for "none" in a counter; a count is kept as one more. A number and no `Option`, as registers are lent,
+// kept and stated as numbers of two bytes.
 pub(crate) const NONE: u16 = 0;
 
 // Registers, and the bits that the instructions of a frame have written so far.

@@ -44,7 +44,8 @@ impl Registers {
         }
     }
 
-    // Takes one frame through code that is loaded, and hands the new registers back with the output bit.
+    // Takes one frame through code that is loaded, and hands the new registers back with the output bit: by value, as
+    // document 01 lists it. It takes any slice of sound code, where a type for such code would ask more of its caller.
     pub fn advance(mut self, code: &[Instruction], frame: u8) -> Advanced
         requires { Sound code.now }
         ensures { result ≡ advanced_by code.now frame self }

@@ -20,8 +20,8 @@ fn bad_clip(frames: usize) -> bool
     frames == 0 || MOST_FRAMES < frames
 }
 
-// Runs code that is loaded over a clip, from the last frame to the first, and writes a verdict for each: by its place,
-// as the buffer may be longer than the clip.
+// Runs code that is loaded over a clip, from the last frame to the first, and writes a verdict for each. By places, as
+// what pairs of frames and verdicts run through backwards leave in the buffer is not known.
 fn run_frames(code: &[Instruction], clip: &[u8], out: &mut [u8])
     requires { CanRun code.now clip.now out.old }
     ensures { out.new ≡ over (verdicts code.now clip.now) out.old }

@@ -39,6 +39,7 @@ fn read_full<R: Read>(input: &mut R, buffer: &mut [u8]) -> io::Result<usize>
     Ok(at)
 }
 
+// Prints the standing of the rule on standard input. Its buffers are arrays, as the program has no heap.
 fn main(rt: HostRuntime) -> io::Result<()> {
     let mut rule = [0; MOST_BYTES];
     let got = read_full(&mut rt.reader(), &mut rule)?;

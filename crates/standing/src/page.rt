@@ -12,7 +12,8 @@ use ground::refusal::{Refusal, number, place};
 use rules::load::Loaded;
 use text::digits;
 
-// A buffer, and the place behind the text that stands in it.
+// A buffer, and the place behind the text that stands in it. Room on it is a clause of the methods and no invariant, as
+// each method asks it for what that method writes.
 #[derive(Drop)]
 pub(crate) struct Page<'a> {
     pub text: &'a mut [u8],
@@ -96,7 +97,7 @@ impl Page<'_> {
     }
 
     // Writes what is told of a rule of so many bytes, or its refusal.
-    pub(crate) fn standing(
+    pub(crate) fn write(
         &mut self,
         bytes: usize,
         standing: Result<Standing, Refusal>,

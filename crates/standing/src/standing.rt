@@ -41,6 +41,6 @@ pub(crate) fn write_standing(
 {
     let standing = standing_of(rule, table, witness);
     let mut page = Page { text, at: 0 };
-    page.standing(rule.len(), standing, witness);
+    page.write(rule.len(), standing, witness);
     page.at
 }

@@ -24,7 +24,8 @@ pub fn room_of(table: &[u8]) -> usize
     (table.len() / RECORD).min(MOST_RECORDS)
 }
 
-// A record of a table, by its number.
+// A record of a table, by its number. That there is such a record is asked of each caller, as it ties a number to a
+// table: a struct round the table would ask it too.
 fn record_at(table: &[u8], n: usize) -> &[u8; RECORD]
     requires { n < room_in table.now }
     ensures { result.now ≡ record_at table.now n }
@@ -75,8 +76,8 @@ pub fn find(table: &[u8], registers: Registers) -> Option<usize>
     None
 }
 
-// Stores a state as the record of a number, with the number of the record that it came from, if any, and puts it in
-// front of the chain of its bucket.
+// Stores a state as record n, with the number of the record that it came from, if any, and puts it in front of the
+// chain of its bucket.
 pub fn store(table: &mut [u8], n: usize, registers: Registers, from: Option<usize>, frame: u8)
     requires { CanStore table.old n from }
     ensures { Stores table.old table.new n registers from frame }

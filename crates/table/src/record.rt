@@ -113,8 +113,8 @@ pub(crate) fn read_link(bytes: &[u8; RECORD], at: usize) -> Option<usize>
     (number as usize).checked_sub(1)
 }
 
-// Writes a link of a record. To a slice: of arrays that a table is lent as to be written, nothing would be known of the
-// table after them.
+// Writes a link of a record. To a slice, as nothing would be known of a table after it was lent as arrays to be
+// written.
 pub(crate) fn write_link(bytes: &mut [u8], at: usize, link: Option<usize>)
     requires { (at + link_size ≤ length bytes.old) × LinkFits link }
     ensures { LinkWritten at link bytes.old bytes.new }

@@ -1,5 +1,6 @@
 // Digits in a buffer. What is written is written whole, as `ground::buffer::write_bytes` does: bytes that do not fit
-// are not written, and the answer is then the place itself.
+// are not written, and the answer is then the place itself. The place goes from call to call as a number, and not in a
+// struct with the buffer, as the public functions take and answer it so.
 ghost use Rattle.std.specs.Prelude.{◌≡◌, ◌++◌, ◌+◌, ◌^◌, ◌≤◌, ◌<◌};
 ghost use Rattle.ground.specs.Buffers.{written, place_after};
 ghost use Rattle.text.specs.Digits.{digit as Digits·digit, decimal, hex_byte};
@@ -25,6 +26,7 @@ fn write_digit(text: &mut [u8], at: usize, n: usize) -> usize
     requires { n < 10 }
     ensures { Puts text.old at (decimal n) text.new result }
 {
+    // A cast, as the number fits: `try_from` would add an error that never comes.
     let one = [digit(n as u8)];
     write_bytes(text, at, &one)
 }

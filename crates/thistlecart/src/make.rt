@@ -27,7 +27,8 @@ pub extern "C" fn thistlecart_negate(rule: &[u8], out: &mut [u8]) -> u64
     made_word(negate(rule, out))
 }
 
-// Makes the rule that a rule holds from the next frame on. The word has the new rule's length in bits 8 and up.
+// Makes the rule that a rule holds from the next frame on, or that there is no next frame. The word has the new rule's
+// length in bits 8 and up.
 #[unsafe(no_mangle)]
 pub extern "C" fn thistlecart_next(rule: &[u8], out: &mut [u8]) -> u64
     ensures { OneRuleEntry next_frame rule.now out.old result out.new }

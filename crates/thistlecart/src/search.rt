@@ -13,6 +13,7 @@ fn found_word(found: Result<Found, Refusal>) -> u64
     ensures { result ≡ found_word found }
 {
     match found {
+        // The length has a match of its own: laid out, a pattern of both takes six lines.
         Ok(Found { length, states }) => match length {
             Some(length) => BIT_8 + length as u64 * BIT_16 + states as u64 * BIT_32,
             None => states as u64 * BIT_32,

@@ -3,4 +3,4 @@ use Rattle.finder.specs.Inner.Flags.{Passed}
 use Rattle.finder.proofs.flags.passed_over.Given as goal
 
 abbrev pub invariant-loop-byte : goal.invariant-loop-byte
-invariant-loop-byte l = Passed l.named l.passed-items l.byte
+invariant-loop-byte l = Passed l.named l.entry-items l.byte

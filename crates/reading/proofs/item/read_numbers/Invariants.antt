@@ -2,5 +2,5 @@
 use Rattle.reading.proofs.Items.{ReadingNumbers}
 use Rattle.reading.proofs.item.read_numbers.Given as goal
 
-abbrev pub invariant-loop-k : goal.invariant-loop-k
-invariant-loop-k l = ReadingNumbers l.bytes l.at l.code l.count l.numbers l.next l.k
+abbrev pub invariant-loop-number : goal.invariant-loop-number
+invariant-loop-number l = ReadingNumbers l.bytes l.at l.code l.count l.number-items l.next l.number-index

@@ -2,7 +2,7 @@
 use Rattle.std.proofs.Common.{◌≡◌, ◌<◌, ℕ, List, sym, ap, ◌∙◌, Some, Ok, Err, arith, rules}
 use Rattle.std.proofs.lemmas.Bool.Decides.{nat_tests}
 use Rattle.ground.specs.declared.refusal.Refusal.{Refusal}
-use Rattle.reading.specs.Items.{Standing, Over, item_at}
+use Rattle.reading.specs.Items.{AtPlace, Over, item_at}
 use Rattle.reading.specs.declared.item.Table.{Table}
 use Rattle.reading.specs.declared.reader.Reader.{Reader}
 use Rattle.reading.proofs.InTurn.{forward, item_inside}
@@ -12,7 +12,7 @@ use Rattle.rules.proofs.load.decode.Goals as goal
 use Rattle.rules.proofs.load.decode.Goals.{In-Some, After-pass}
 
 -- what the reader tells of its place is the definition's
-told : {bytes : List ℕ} {reader : Reader} (s : Standing) → Over Table.Rule bytes reader → s ≡ item_at reader.table reader.bytes.now reader.at
+told : {bytes : List ℕ} {reader : Reader} (s : AtPlace) → Over Table.Rule bytes reader → s ≡ item_at reader.table reader.bytes.now reader.at
     → s ≡ item_at Table.Rule bytes reader.at
 told s o e = rw (o.own_table, o.own_bytes) at e
 

@@ -20,7 +20,7 @@ overflow_sub-bottom c = (space (goal.at.overflow_sub-bottom c).In_ok-counts).ope
 pub overflow_add-self : goal.overflow_add-self
 overflow_add-self c =
     let m = more (goal.at.overflow_add-self c).In_ok-counts _ c.requires.1 in
-    rw (c.largest-reach.ensures, c.row_of-row.ensures) (omega (arith, space_of _ _ _ _ _ m, near_of _ _ _ _ _ m))
+    rw (c.largest-horizon.ensures, c.row_of-row.ensures) (omega (arith, space_of _ _ _ _ _ m, near_of _ _ _ _ _ m))
 
 pub bounds-self-bottom : goal.bounds-self-bottom
 bounds-self-bottom c = omega (arith, space (goal.at.bounds-self-bottom c).In_ok-counts)
@@ -31,4 +31,4 @@ bounds-self-place c = (space (goal.at.bounds-self-place c).In_ok-counts).place
 pub returns : goal.returns
 returns c is f =
     let m = more (goal.at.returns c).In_ok-counts is f in
-    (ap item_outcome m.passes, rw (c.largest-reach.ensures, c.row_of-row.ensures) (gathers_more _ _ _ _ _ m))
+    (ap item_outcome m.passes, rw (c.largest-horizon.ensures, c.row_of-row.ensures) (gathers_more _ _ _ _ _ m))

@@ -1,4 +1,4 @@
--- `standing` meets its contract: what is told of the rule says which lines the text has, and each is written where there is room for what is left.
+-- `write` meets its contract: what is told of the rule says which lines the text has, and each is written where there is room for what is left.
 use mathlib.Core.Path.{◌≡◌}
 use mathlib.Core.List.{List, ◌++◌}
 use Prim.Native.Nat.{ℕ, ◌≤◌}
@@ -15,7 +15,7 @@ use Rattle.standing.specs.Inner.Within.{ClipWithin}
 use Rattle.standing.specs.Standing.{clip_text}
 use Rattle.standing.specs.Text.{head_text}
 use Rattle.standing.proofs.Pages.{LeftOn, start_by, go_on}
-use Rattle.standing.proofs.page.Page.standing.Goals as goal
+use Rattle.standing.proofs.page.Page.write.Goals as goal
 
 -- at first all of the text is left, by what was found
 lines : (bytes : ℕ) (witness : List ℕ) {told : Result Standing Refusal} {s : Standing} {shown : Option ℕ} {page : Page} → told ≡ Ok s → s.found.length ≡ shown
