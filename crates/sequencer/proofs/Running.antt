@@ -1,7 +1,7 @@
 -- The run over a clip, frame by frame from the last. `Runs` says where it stands: the registers are those after the frames read, and the buffer has a verdict
 -- for each of them. One frame more is one step, and by the meaning of registers and bits it leads to the registers and the verdict of the longer clip.
 use mathlib.Core.Path.{◌≡◌, refl, sym, ap, ◌∙◌}
-use mathlib.Core.Bool.{Bool, true, false}
+use mathlib.Core.Bool.{Bool}
 use mathlib.Core.List.{List, [], ◌∷◌, ◌++◌, append_assoc}
 use Prim.Native.Nat.{ℕ, zero, suc, ◌+◌, ◌<◌}
 use native.Mathlib.Numerals.{add-one}
@@ -10,7 +10,6 @@ use lib.ListN.{length, get_or, take, drop, set, length-take, take-append-drop, d
 use lib.Seq.{drop-cons, take-suc, set_at}
 use Rattle.ground.specs.Buffers.{over, byte_of}
 use Rattle.ground.specs.Frames.{Clip}
-use Rattle.std.specs.Int.{from_bool}
 use Rattle.sequencer.specs.Bits.{output}
 use Rattle.code.specs.Code.{Code}
 use Rattle.sequencer.specs.Registers.{fresh_registers}
@@ -32,11 +31,6 @@ set_front xs own p v h =
     let d : drop p xs ≡ get_or xs p v ∷ drop (suc p) xs = drop-cons xs p v h in
     rw (add-one p, t, d, append_assoc) (set_at (take p xs) _ _ v p (rw length-take (omega arith)))
 
--- a bit as a byte, as it is converted
-byte_is : (b : Bool) → from_bool b ≡ byte_of b
-byte_is true = refl
-byte_is false = refl
-
 module _ (code : Code) (clip out₀ : List ℕ) where
   -- Where the run stands: so many frames are left
   pub record Runs (r : Registers) (out : List ℕ) (left : ℕ) : Type 0 where
@@ -53,7 +47,7 @@ module _ (code : Code) (clip out₀ : List ℕ) where
       }
 
   pub runs_more : CanRun code clip out₀ → {s s' : Sequencer} {out : List ℕ} {left : ℕ} → Runs s.registers out left → (p : ℕ) → p + 1 ≡ left → p < length clip
-      → (b : Bool) → Leaves code (get_or clip p 0) b s s' → (v : ℕ) → v ≡ from_bool b → Runs s'.registers (set out p v) p
+      → (b : Bool) → Leaves code (get_or clip p 0) b s s' → (v : ℕ) → v ≡ byte_of b → Runs s'.registers (set out p v) p
   unfolding verdicts advanced_by
   runs_more f {left = left} r p next inside b g v own =
       let x = get_or clip p 0 in
@@ -64,7 +58,7 @@ module _ (code : Code) (clip out₀ : List ℕ) where
       let bit : b ≡ output code (x ∷ c) = ap (λ a. a.bit) h ∙ after_output code lines x c in
       record {
         registers = rw d (ap (λ a. a.registers) h ∙ after_registers code lines x c);
-        buffer = rw (d, own, byte_is, bit, r.buffer) (rw next at (set_front out₀ (verdicts code c) p (byte_of (output code (x ∷ c))) (omega (arith, f.room))));
+        buffer = rw (d, own, bit, r.buffer) (rw next at (set_front out₀ (verdicts code c) p (byte_of (output code (x ∷ c))) (omega (arith, f.room))));
       }
 
 -- The bytes of a run: one for each frame, by the output after the clip from it

@@ -4,14 +4,12 @@ use mathlib.Core.Path.{◌≡◌, refl, sym, ap, ◌∙◌}
 use mathlib.Core.Bool.{Bool, true, false, not, ◌&&◌}
 use mathlib.Core.List.{List, [], ◌∷◌, ◌++◌}
 use Prim.Native.Nat.{ℕ, suc, ◌+◌, ◌-◌, ◌≤◌, ◌<◌}
-use native.Mathlib.Nat.{add-zero}
 use native.Mathlib.Numerals.{add-one}
 use native.Mathlib.Omega.{arith}
 use borrow.Author.Tests.{ne_eqb}
-use borrow.Rule.Slice.PartMut.{put_mid, mid_of}
 use lib.Dec.{eqb}
 use lib.ListN.{length, get_or, take, drop, set, length-set, length-take, take-append-drop}
-use lib.Seq.{take-suc, take_all, take-suc-set, drop-set-lt, get_or-take, get_or-drop, drop-drop}
+use lib.Seq.{take-suc, take_all, take-suc-set, drop-set-lt, get_or-take, drop-drop}
 use Rattle.ground.specs.Frames.{has_flag}
 use Rattle.code.specs.declared.instruction.Instruction.{Instruction}
 use Rattle.code.specs.declared.instruction.Instruction.TheVariants.{One, Flag, Nand, Reach, Later}
@@ -22,12 +20,11 @@ use Rattle.code.specs.Good.{FitsBehind}
 use Rattle.code.specs.Programs.{Sound}
 use Rattle.code.proofs.Counting.{good_instructions}
 use Rattle.sequencer.specs.Bits.{Counter, none, count, next, is_on}
-use Rattle.sequencer.specs.Registers.{Working, start, execute, executed, counter_of, kept}
+use Rattle.sequencer.specs.Registers.{Working, start, execute, executed, counter_of, kept, shifted}
 use Rattle.sequencer.specs.Stepping.{advanced_by}
 use Rattle.sequencer.specs.Inner.Through.{stands_at, Served, Executes, Leaves}
 use Rattle.sequencer.specs.declared.frame.Sequencer.{Sequencer}
 use Rattle.sequencer.specs.declared.frame.Taken.{Taken}
-use Rattle.sequencer.proofs.Shifting.{shifted_part}
 
 -- One instruction
 
@@ -60,20 +57,13 @@ module _ (frame : ℕ) (t : Taken) (s : Sequencer) where
         let on : not (eqb m 0) ≡ is_on q = rw own (is_on_lem q) in
         record { stands = λ n h. rw (on, own, get_or-take n s.bits i false h.0, get_or-take n s.bits j false h.1); bits = refl }
 
-  -- n is d by what a part's bounds say
-  pub executes_later : (i d n : ℕ) → n ≡ d → 1 ≤ d → (oldest : Bool) (line : List Bool)
-      → oldest ≡ get_or (mid_of t.delays n s.registers.delays) 0 false
-      → line ≡ drop 1 (mid_of t.delays n s.registers.delays) ++ get_or s.bits i false ∷ []
-      → Executes (Later i d) frame t (record t { delays = t.delays + d }) s
-      (record s { registers = record s.registers { delays = put_mid t.delays n s.registers.delays line } }) oldest
+  pub executes_later : (i d n : ℕ) → n ≡ d → (newest : Bool) → newest ≡ get_or s.bits i false
+      → (delays : List Bool) → delays ≡ shifted s.registers.delays t.delays n newest
+      → Executes (Later i d) frame t (record t { delays = t.delays + d }) s (record s { registers = record s.registers { delays = delays } })
+      (get_or s.registers.delays t.delays false)
   unfolding execute
-  executes_later i d n own some oldest line first moved =
-      let delays = s.registers.delays in
-      let here : get_or (take d (drop t.delays delays)) 0 false ≡ get_or delays t.delays false =
-      get_or-take d (drop t.delays delays) 0 false some ∙ rw add-zero at (get_or-drop t.delays delays 0 false) in
-      let bit = rw (own, here) at first in
-      let shift = shifted_part delays line t.delays d (get_or s.bits i false) (rw own at moved) in
-      rw (own, bit, shift)
+  executes_later i d n long newest bit delays shift =
+      rw (shift, bit, long)
       (record { stands = λ k h. rw (get_or-take k s.bits i false h.0); bits = refl })
 
 -- Instructions in turn

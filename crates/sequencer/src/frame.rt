@@ -1,16 +1,16 @@
 // The sequencer at work: registers, and what a frame through code that is loaded makes of them, instruction by
 // instruction.
-ghost use Rattle.std.specs.Prelude.{false, not, ◌&&◌, ◌∷◌, ◌++◌, [], ◌≡◌, ◌≤◌, ◌<◌, length, drop, slice_index_or};
+ghost use Rattle.std.specs.Prelude.{false, not, ◌&&◌, ◌≡◌, ◌+◌, ◌-◌, ◌≤◌, ◌<◌, length, slice_index_or};
 ghost use Rattle.ground.specs.Frames.{has_flag};
 ghost use Rattle.ground.specs.Limits.{limits};
 ghost use Rattle.code.specs.Programs.{Sound};
 ghost use Rattle.sequencer.specs.Bits.{next};
-ghost use Rattle.sequencer.specs.Registers.{counter_of, kept};
+ghost use Rattle.sequencer.specs.Registers.{counter_of, kept, shifted};
 ghost use Rattle.sequencer.specs.Inner.Through.{at_work, Served, Executes, Leaves};
 
 use crate::registers::Registers;
 use code::instruction::Instruction;
-use ground::limits::MOST_INSTRUCTIONS;
+use ground::limits::{DELAYS, MOST_INSTRUCTIONS};
 
 // What stands for "none" in a counter; a count is kept as one more. A number and no `Option`, as registers are lent,
 // kept and stated as numbers of two bytes.
@@ -62,17 +62,17 @@ fn next_counter(counter: u16, width: u16, i: bool, j: bool) -> u16
     if j { 1 } else { risen }
 }
 
-// Moves a line of delay bits on by one: the oldest falls out and is handed back, and the newest comes in last. The
-// slice's `rotate_left` takes less time than a loop over the line.
-fn shift_in(line: &mut [bool], newest: bool) -> bool
-    requires { 0 < length line.old }
-    ensures oldest { result ≡ slice_index_or line.old 0 false }
-    ensures line { line.new ≡ drop 1 line.old ++ newest ∷ [] }
+// Moves the line of delay bits between two places on by one: the oldest falls out, and the newest comes in last. By a
+// loop over places of all delay bits: over a line lent as a slice it is compiled to a call of memmove, as the slice's
+// `rotate_left` is, which the archive would need from outside, and which takes twice the time for a line of two bits.
+fn shift_in(delays: &mut [bool; DELAYS], at: usize, last: usize, newest: bool)
+    requires { (at ≤ last) × (last < length delays.old) }
+    ensures { delays.new ≡ shifted delays.old at (last + 1 - at) newest }
 {
-    let oldest = line[0];
-    line[0] = newest;
-    line.rotate_left(1);
-    oldest
+    for p in at..last {
+        delays[p] = delays[p + 1];
+    }
+    delays[last] = newest;
 }
 
 impl Sequencer {
@@ -114,8 +114,11 @@ impl Sequencer {
                 let newest = self.bit(i);
                 let at = taken.delays;
                 let behind = at + usize::from(d);
+                let last = behind - 1;
                 taken.delays = behind;
-                shift_in(&mut self.registers.delays[at..behind], newest)
+                let oldest = self.registers.delays[at];
+                shift_in(&mut self.registers.delays, at, last, newest);
+                oldest
             }
         }
     }

@@ -9,6 +9,7 @@ use crate::frame::Sequencer;
 use crate::registers::Registers;
 use code::instruction::Instruction;
 use code::load::decode;
+use ground::byte::byte_of;
 use ground::limits::MOST_FRAMES;
 use ground::refusal::Refusal;
 
@@ -28,7 +29,7 @@ fn run_frames(code: &[Instruction], clip: &[u8], out: &mut [u8])
 {
     let mut sequencer = Sequencer::new(Registers::fresh());
     for at in (0..clip.len()).rev() {
-        out[at] = u8::from(sequencer.read_frame(code, clip[at]));
+        out[at] = byte_of(sequencer.read_frame(code, clip[at]));
     }
 }
 

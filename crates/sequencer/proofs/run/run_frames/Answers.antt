@@ -8,7 +8,7 @@ pub loop-at-init : goal.loop-at-init
 loop-at-init c = rw (c.new-sequencer.ensures, c.fresh.ensures) (runs_first _ _ _ c.requires.sound)
 
 pub loop-at-preserved : goal.loop-at-preserved
-loop-at-preserved c = runs_more _ _ _ c.requires c.loop-at.invariant _ (omega arith) (omega arith) _ c.read_frame.ensures _ c.from.ensures
+loop-at-preserved c = runs_more _ _ _ c.requires c.loop-at.invariant _ (omega arith) (omega arith) _ c.read_frame.ensures _ c.byte_of.ensures
 
 pub returns : goal.returns
 returns c = let none : c.loop-at.at ≡ 0 = omega arith in

@@ -1,5 +1,7 @@
 -- `execute` meets its contract: each arm is one of the instruction's laws.
-use native.Mathlib.Nat.{add-sub_cancel_left}
+use mathlib.Core.Path.{◌≡◌}
+use Prim.Native.Nat.{◌+◌, ◌-◌}
+use native.Mathlib.Omega.{arith}
 use Rattle.sequencer.proofs.Through.{executes_one, executes_flag, executes_nand, executes_reach, executes_later}
 use Rattle.sequencer.proofs.frame.Sequencer.execute.Goals as goal
 
@@ -17,8 +19,6 @@ returns-in-Reach c = rw c.in-Reach.is (executes_reach _ _ _ _ _ _ _ (rw (c.bit-i
 
 pub returns-in-Later : goal.returns-in-Later
 returns-in-Later c =
-    let d = c.from.ensures in
     let fits = rw c.in-Later.is at c.requires.fits in
-    rw (c.in-Later.is, d)
-    (executes_later _ _ _ _ _ _ (add-sub_cancel_left _ _) fits.1 _ _ (rw d at c.shift_in.ensures.oldest)
-    (rw (d, c.bit-newest.ensures) at c.shift_in.ensures.line))
+    let long : c.args.taken.now.delays + c.from.result - 1 + 1 - c.args.taken.now.delays ≡ c.in-Later.d = omega (arith, c.from.ensures, fits.1) in
+    rw (c.in-Later.is, c.from.ensures) (executes_later _ _ _ _ _ _ long _ c.bit-newest.ensures _ c.shift_in.ensures)
