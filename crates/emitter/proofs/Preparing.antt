@@ -72,13 +72,16 @@ module _ (bytes : List ℕ) (rule : Rule) (a : Accepts bytes rule) where
     unfolding rule_kept
     own_items = own ∙ rw a.own (items_back a.items a.formula) ∙ a.is_rule.own_items
 
+    pub items_are : items_code is ≡ code_for a.formula
+    items_are = rw own_items (code_of_items a.formula)
+
     pub can_translate : CanTranslate is
     can_translate = rw own_items (translatable bytes a.formula (rw a.is_rule.own_items at a.is_rule))
 
     pub prepared : (l : Loaded) (p : Program) → l ≡ loaded_in rule → p ≡ program_with (items_code is)
         → Ok (record { loaded = l; program = p }) ≡ prepared_of (read_rule bytes)
     unfolding prepared_of rule_kept loaded_in
-    prepared l p tells makes = rw (tells, makes, own_items, code_of_items, a.own, a.read)
+    prepared l p tells makes = rw (tells, makes, items_are, a.own, a.read)
 
 pub refusal_kept : (bytes : List ℕ) (r : Refusal) → Err r ≡ rule_of (read_rule bytes) → Err r ≡ prepared_of (read_rule bytes)
 unfolding prepared_of

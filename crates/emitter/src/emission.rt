@@ -16,10 +16,10 @@ use rules::item::{Item, row_of};
 // The code so far, and the numbers of the bits of the values that wait for an operator, in an array, as the library has
 // no heap.
 #[derive(Clone, Copy)]
-struct Emission {
-    program: Program,
-    bits: [u16; MOST_ITEMS],
-    depth: usize,
+pub(crate) struct Emission {
+    pub program: Program,
+    pub bits: [u16; MOST_ITEMS],
+    pub depth: usize,
 }
 
 // N: NAND of a bit with itself.
@@ -31,7 +31,7 @@ fn inverse(bit: u16) -> Instruction
 
 impl Emission {
     // No instruction, and no value.
-    fn new() -> Emission
+    pub(crate) fn new() -> Emission
         ensures { result ≡ nothing_emitted }
     {
         Emission {
@@ -157,6 +157,17 @@ impl Emission {
         self.bits[bottom] = self.number() - 1;
         self.depth = bottom + 1;
     }
+
+    // All items of a rule in turn, each of which has its operands before it.
+    pub(crate) fn add_all(&mut self, items: &[Item])
+        requires none { self.old ≡ nothing_emitted }
+        requires ready { CanTranslate items.now }
+        ensures { self.new.program ≡ program_with (items_code items.now) }
+    {
+        for item in items {
+            self.add(*item);
+        }
+    }
 }
 
 // The code of items, each of which has its operands before it.
@@ -165,8 +176,6 @@ pub(crate) fn translate(items: &[Item]) -> Program
     ensures { result ≡ program_with (items_code items.now) }
 {
     let mut emission = Emission::new();
-    for item in items {
-        emission.add(*item);
-    }
+    emission.add_all(items);
     emission.program
 }

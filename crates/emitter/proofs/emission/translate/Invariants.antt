@@ -1,8 +1,0 @@
--- `translate` meets its contract. The loop's invariant is `Waits`: the code so far is that of the formulas that the items so far make, and their bits wait.
-use lib.ListN.{take}
-use Rattle.rules.specs.Loading.{stack_of}
-use Rattle.emitter.proofs.Waiting.{Waits}
-use Rattle.emitter.proofs.emission.translate.Given as goal
-
-abbrev pub invariant-loop-item : goal.invariant-loop-item
-invariant-loop-item l = Waits l.emission (stack_of (take l.item-index l.items))
