@@ -85,9 +85,9 @@ impl Display for Answer {
 struct Shown<'a>(&'a Registers);
 
 impl Display for Shown<'_> {
-    // The counters as numbers, and the delay bits as hex digits, a word at a time.
+    // The counters as numbers, and the delay bits as hex digits, a word at a time, behind a space.
     fn fmt<W: fmt::Write>(&self, f: &mut Formatter<W>) -> fmt::Result {
-        f.write_str("counters")?;
+        f.write_str(" counters")?;
         for counter in &self.0.counters {
             write!(f, " {counter}")?;
         }
@@ -107,16 +107,21 @@ impl Display for Shown<'_> {
 struct Hex<'a>(&'a [u8]);
 
 impl Display for Hex<'_> {
-    // Two digits for each byte: those of a word at once, then those of the bytes that are left.
+    // Two digits for each byte: those of a word at once, and those of the bytes that are left at once too, as each
+    // number is a write, with no buffer between.
     fn fmt<W: fmt::Write>(&self, f: &mut Formatter<W>) -> fmt::Result {
         let (words, rest) = self.0.as_chunks::<WORD_BYTES>();
         for word in words {
             write!(f, "{:0WORD_DIGITS$x}", u64::from_be_bytes(*word))?;
         }
-        for byte in rest {
-            write!(f, "{byte:02x}")?;
+        if rest.is_empty() {
+            return Ok(());
         }
-        Ok(())
+        let digits = 2 * rest.len();
+        let word = rest
+            .iter()
+            .fold(0, |word: u64, byte| (word << 8) | u64::from(*byte));
+        write!(f, "{word:0digits$x}")
     }
 }
 
@@ -199,7 +204,7 @@ impl Case<'_> {
                 let frame = frame.first().copied().unwrap_or(0);
                 let stepped = lent_registers(registers).step(code, frame);
                 let output = stepped.output.map(Told::Bit);
-                writeln!(out, "{} {}", Answer(output), Shown(&stepped.registers))
+                writeln!(out, "{}{}", Answer(output), Shown(&stepped.registers))
             }
             Case::Run { code, clip, buffer } => {
                 let ran = run(code, clip, buffer).map(|()| Told::Done);
