@@ -8,7 +8,7 @@ use native.Mathlib.Nat.{sub-zero}
 use native.Mathlib.Decide.{dec_lt, ℕ_discrete}
 use native.Mathlib.Omega.{arith}
 use borrow.Author.Tests.{le-leb, lt-leb, ne_eqb}
-use lib.ListN.{length, get_or, set, take, drop, replicate, length-append, drop_of_length-le}
+use lib.ListN.{length, get_or, set, take, drop, replicate, length-append, length-take, drop_of_length-le}
 use lib.Seq.{drop-cons}
 use Rattle.ground.specs.Each.{Each}
 use Rattle.std.specs.Prelude.{Option, None, Some, Result, Ok, Err}
@@ -24,6 +24,10 @@ use Rattle.ground.specs.declared.refusal.Refusal.{Refusal}
 use Rattle.ground.specs.declared.refusal.Refusal.TheVariants.{UnknownCode}
 use Rattle.std.proofs.lemmas.List.{take-replicate, drop-replicate}
 use Rattle.ground.proofs.Padded.{append_zeros, padded_none, set_padded}
+
+-- an index of the first numbers of an array is below how many they are
+pub one_of : (count k : ℕ) (array : List ℕ) → k < length (take count array) → k < count
+one_of count k array h = let l = rw length-take at h in omega arith
 
 module _ (bytes : List ℕ) (at code count : ℕ) where
   -- k numbers are read, and the next one would stand at `next`

@@ -1,5 +1,6 @@
 // The one reader that walks rules and code alike and always knows its place: a loader keeps it, and its place is that
-// of the item that is being checked. The work is done by `item_at`, on the bytes and the place.
+// of the item that is being checked. What stands there is told by `read_item`, which has plain parameters; the work is
+// done by `item_at`, on the bytes and the place.
 ghost use Rattle.std.specs.Prelude.{◌≡◌};
 ghost use Rattle.reading.specs.Items.{item_at};
 
@@ -27,10 +28,11 @@ impl<'a> Reader<'a> {
     }
 
     // What stands at the reader's place: an item, the end, or a refusal.
+    #[inline(always)]
     pub fn item(&self) -> Result<Option<Read>, Refusal>
         ensures { result ≡ item_at self.now.table self.now.bytes.now self.now.at }
     {
-        item_at(self.table, self.bytes, self.at)
+        read_item(self.table, self.bytes, self.at)
     }
 
     // Moves the reader past an item, to the place behind it.
@@ -42,8 +44,9 @@ impl<'a> Reader<'a> {
 }
 
 // What stands at a place, which may be the end or lie behind it.
+#[inline(always)]
 pub fn read_item(table: Table, bytes: &[u8], at: usize) -> Result<Option<Read>, Refusal>
     ensures { result ≡ item_at table bytes.now at }
 {
-    Reader { table, bytes, at }.item()
+    item_at(table, bytes, at)
 }

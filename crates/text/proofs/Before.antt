@@ -11,11 +11,11 @@ use Rattle.text.specs.Inner.Before.{WrittenBefore}
 use Rattle.text.specs.Inner.Writing.{Puts}
 use Rattle.text.proofs.Writing.{puts_more}
 
--- none are to fit behind them
-pub before_none : (text : List ℕ) (at : ℕ) (bytes after : List ℕ) (end : Option ℕ) → WrittenBefore text at bytes 0 after end
-    → Puts text at bytes after (unwrap_or end at)
-before_none text at bytes after None (large, same) = rw same (unfitting text at bytes (omega arith))
-before_none text at bytes after (Some place) (fits, p) = p
+-- none are to fit behind them, and where nothing is written the place itself is told
+pub before_none : (text : List ℕ) (at : ℕ) (bytes after : List ℕ) (end : Option ℕ) {place : ℕ} → WrittenBefore text at bytes 0 after end
+    → place ≡ unwrap_or end at → Puts text at bytes after place
+before_none text at bytes after None (large, same) told = rw (told, same) (unfitting text at bytes (omega arith))
+before_none text at bytes after (Some place) (fits, p) told = rw told p
 
 -- one byte more behind them
 module _ (text : List ℕ) (at : ℕ) (xs : List ℕ) (more : ℕ) (mid ys : List ℕ) (one : length ys ≡ 1) where

@@ -64,7 +64,7 @@ pub fn write_decimal(text: &mut [u8], at: usize, n: usize) -> usize
     ensures buffer { text.new ≡ written text.old at (decimal n) }
     ensures place { result ≡ place_after text.old at (decimal n) }
 {
-    write_count(text, at, b"", n)
+    write_before(text, at, b"", n, 0).unwrap_or(at)
 }
 
 // Writes a word and a number in decimal behind it, and answers the place behind both.

@@ -1,5 +1,6 @@
 -- `read_number` meets its contract: the tests on the way to each return are the premises of one law of `number_at`.
 use borrow.Author.Rules.{rules}
+use native.Mathlib.Omega.{arith}
 use borrow.Author.Tests.{eq-eqb, le-leb}
 use mathlib.Core.Bool.{or-true}
 use Rattle.reading.specs.Numbers.{group}
@@ -21,12 +22,12 @@ returns-then-high-eq0 c =
     elim c.then-high-eq0.branch [
       | then-high-eq0-via-then-high-eq0 w ↦
           long _ _ _ (search rules) c.wide-low.ensures.0 _ c.if-low-lt-GROUP.false (search rules) c.wide-high.ensures.0
-          (rw (eq-eqb c.wide-high.result 0 w.if-high-eq0.true))
+          (rw (eq-eqb c.wide-high.result 0 (omega arith)))
       | then-high-eq0-via-else-high-eq0+then-high-ge-GROUP w ↦
           long _ _ _ (search rules) c.wide-low.ensures.0 _ c.if-low-lt-GROUP.false (search rules) c.wide-high.ensures.0
-          (rw (le-leb group c.wide-high.result w.if-high-ge-GROUP.true, or-true))
+          (rw (le-leb group c.wide-high.result (omega arith), or-true))
     ]
 
 pub returns : goal.returns
 returns c =
-    two _ _ _ (search rules) c.wide-low.ensures.0 _ c.if-low-lt-GROUP.false (search rules) c.wide-high.ensures.0 c.if-high-eq0.false c.if-high-ge-GROUP.false
+    two _ _ _ (search rules) c.wide-low.ensures.0 _ c.if-low-lt-GROUP.false (search rules) c.wide-high.ensures.0 (omega arith) (omega arith)
